@@ -1,4 +1,5 @@
-//! The state of an applier: what its worker holds, what it knows of results, and what it has under way.
+//! The state of an applier: what its worker holds, what it knows of results, and what it has under
+//! way.
 ghost use Rattle.std.specs.Prelude.{◌≡◌};
 ghost use Rattle.eqc_plain.specs.Cache.{IsCache};
 ghost use Rattle.std.proofs.Props.{props};
@@ -21,9 +22,11 @@ pub struct Applier {
     pub(crate) forks: u32,
     // The levels in which it is offered now.
     pub(crate) offers: Vec<u32>,
-    // The levels, a bit each, of which another worker took the half and has not put its answer back.
+    // The levels, a bit each, of which another worker took the half and has not put its answer
+    // back.
     pub(crate) owed: u32,
-    // Whether an operation begins anew, without names that no references stand on, where the forest is full.
+    // Whether an operation begins anew, without names that no references stand on, where the forest
+    // is full.
     pub(crate) anew: bool,
     // How often in succession there was no operation to be done for another worker.
     pub(crate) vain: u32,

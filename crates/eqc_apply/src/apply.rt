@@ -10,9 +10,10 @@ use eqc_tree::{Op, Stop};
 use std::snapshot::Snapshot;
 use std::sync::Wait;
 
-/// In so many first levels of an operation results go through the shared cells, and below them at each variable that this
-/// step divides. What another worker did is then found at once or a few levels further down, while most results are
-/// spared the counts of a cell, which all workers would wait for.
+/// In so many first levels of an operation results go through the shared cells, and below them at
+/// each variable that this step divides. What another worker did is then found at once or a few
+/// levels further down, while most results are spared the counts of a cell, which all workers would
+/// wait for.
 const SHARED_LEVELS: usize = 8;
 
 const SHARED_STEP: u16 = 8;
@@ -30,8 +31,8 @@ impl Applier {
 
     /// The name of an operation's result (Bryant 1986, section 4.3). In the first levels of the
     /// operation one half is offered to other workers, and nothing is offered in the end. The call
-    /// may wait. The errors are 71, where every slot was seen taken or the turns that are allowed are
-    /// spent, 72, and those of workers that did a half.
+    /// may wait. The errors are `NodeLimit`, where every slot was seen taken or the turns that are
+    /// allowed are spent, `Memory`, and those of workers that did a half.
     pub(crate) fn combine<R: Wait>(&mut self, rt: &R, op: Op, f: u32, g: u32) -> Result<u32, Stop>
         requires f { IsHeld self.old.names.worker.known.core f }
         requires g { IsHeld self.old.names.worker.known.core g }
@@ -46,8 +47,9 @@ impl Applier {
         made
     }
 
-    /// The loop of an operation, with a stack of tasks in place of the recursion. Its turns are counted: two large operands have
-    /// as many pairs of nodes as the product of their sizes, and where their result is small the forest is never full.
+    /// The loop of an operation, with a stack of tasks in place of the recursion. Its turns are
+    /// counted: two large operands have as many pairs of nodes as the product of their sizes, and
+    /// where their result is small the forest is never full.
     pub(crate) fn go<R: Wait>(&mut self, rt: &R, op: Op, f: u32, g: u32) -> Result<u32, Stop>
         requires f { IsHeld self.old.names.worker.known.core f }
         requires g { IsHeld self.old.names.worker.known.core g }
@@ -154,8 +156,8 @@ impl Applier {
         }
     }
 
-    /// Puts a task for the operands, and answers their low cofactors. The high ones may be offered to
-    /// other workers. The error is 72 alone.
+    /// Puts a task for the operands, and answers their low cofactors. The high ones may be offered
+    /// to other workers. The error is 72 alone.
     fn descend(&mut self, op: Op, f: u32, g: u32) -> Result<(u32, u32), Stop>
         requires f { IsHeld self.old.names.worker.known.core f }
         requires g { IsHeld self.old.names.worker.known.core g }

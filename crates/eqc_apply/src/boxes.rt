@@ -1,5 +1,6 @@
-//! The boxes: an operation changes hands there. A worker offers one in a box of its own, and takes it back, by itself or with the
-//! result that another worker came to; it takes operations out of boxes of others, and puts there what became of them.
+//! The boxes: an operation changes hands there. A worker offers one in a box of its own, and takes
+//! it back, by itself or with the result that another worker came to; it takes operations out of
+//! boxes of others, and puts there what became of them.
 ghost use Rattle.std.specs.Prelude.{◌≡◌, ◌≢◌, ℕ, Bool, ◌+◌, ◌*◌, ◌^◌, ◌<◌, ◌≤◌, [], ◌∷◌, length, None, IfOk, IfErr, IfSome};
 ghost use Rattle.eqc_tree.specs.Tree.{value};
 ghost use Rattle.eqc_tree.specs.Operation.{operate};
@@ -26,7 +27,8 @@ use eqc_guard::worker::Worker;
 use eqc_tree::{Op, Stop, unpack_cell};
 use std::sync::Wait;
 
-/// How many boxes a worker has: one for each of the first levels of an operation, in which one half can be offered.
+/// How many boxes a worker has: one for each of the first levels of an operation, in which one half
+/// can be offered.
 pub(crate) const LEVELS: u32 = 16;
 
 // Whether the word of a box has an operation to be done. A result has the number of its operation,
@@ -302,8 +304,8 @@ impl Held {
         self.worker.look_box(b) == 0
     }
 
-    /// Takes back what is in the box of this level, and leaves it. Says whether there was something: where an operation
-    /// was offered and nothing is there, another worker is at it.
+    /// Takes back what is in the box of this level, and leaves it. Says whether there was
+    /// something: where an operation was offered and nothing is there, another worker is at it.
     pub(crate) fn withdraw(&mut self, level: u32) -> bool
         ensures names { Extends self.old self.new }
         ensures marks { KeepsMarks self.old.worker.known.core self.new.worker.known.core }
@@ -315,8 +317,9 @@ impl Held {
         }
     }
 
-    /// Takes an operation out of a box of another worker, where it is still to be done. Its operands
-    /// are held then. What else was in the box is put back, and so is the operation where memory is refused for its operands.
+    /// Takes an operation out of a box of another worker, where it is still to be done. Its
+    /// operands are held then. What else was in the box is put back, and so is the operation where
+    /// memory is refused for its operands.
     pub(crate) fn take_task(&mut self, b: u32) -> Option<(Op, u32, u32)>
         requires { b < 16 * self.old.worker.known.core.sizes.workers }
         ensures names { Extends self.old self.new }

@@ -38,8 +38,8 @@ fn compare(worker: &mut Worker, op: Op, f: &Name, g: &Name, r: &Name) -> Option<
 }
 
 impl Held {
-    /// Whether the result of an operation, where the shared cells have it, has the function of a name
-    /// that is held. It is read under its announcement: no count goes up or down.
+    /// Whether the result of an operation, where the shared cells have it, has the function of a
+    /// name that is held. It is read under its announcement: no count goes up or down.
     pub(crate) fn is_shared(&mut self, op: Op, f: u32, g: u32, x: u32) -> Option<bool>
         requires f { IsHeld self.old.worker.known.core f }
         requires g { IsHeld self.old.worker.known.core g }
@@ -64,14 +64,15 @@ impl Held {
 }
 
 impl Applier {
-    /// Whether the operation of `f` and `g` has the function of `r`, where a cell has its result: one of
-    /// the worker's own, or one that all workers share. There is an answer where the worker's own cell
-    /// has it, and none where neither has it. A worker that is alone has one also where the shared cell
-    /// of the operands has their entry, unless that is of a node and no announcement word is free.
+    /// Whether the operation of `f` and `g` has the function of `r`, where a cell has its result:
+    /// one of the worker's own, or one that all workers share. There is an answer where the
+    /// worker's own cell has it, and none where neither has it. A worker that is alone has one also
+    /// where the shared cell of the operands has their entry, unless that is of a node and no
+    /// announcement word is free.
     ///
     /// The names in the worker's own cells are held, and a result in a shared one is read under its
-    /// announcement. So no count goes up or down, no name comes or goes, and others that ask for the
-    /// same result are not kept waiting. The call takes no memory and waits for nobody.
+    /// announcement. So no count goes up or down, no name comes or goes, and others that ask for
+    /// the same result are not kept waiting. The call takes no memory and waits for nobody.
     pub fn cached_is(&mut self, op: Op, f: &Ref, g: &Ref, r: &Ref) -> Option<bool>
         requires f { IsIn (holding_in self.old.names) (entry_of f.now) }
         requires g { IsIn (holding_in self.old.names) (entry_of g.now) }

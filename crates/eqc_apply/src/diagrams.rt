@@ -80,16 +80,19 @@ impl Applier {
 impl Applier {
     ghost use Rattle.std.specs.Prelude.{◌≢◌};
 
-    /// A reference to the operation of `f` and `g`, value by value, as `apply` of the traits. In the
-    /// first levels of the operation one half is offered to the other members of the team: their
-    /// `serve` may do it.
+    /// A reference to the operation of `f` and `g`, value by value, as `apply` of the traits. In
+    /// the first levels of the operation one half is offered to the other members of the team:
+    /// their `serve` may do it.
     ///
-    /// The call may wait. The errors are 71, where every slot was seen taken, by this worker after
-    /// dead nodes were taken back and, where an operation may begin anew, names without references given up, where the turns
-    /// that this worker is allowed are spent, or where one that did a half stopped so; 72; and 73 at 2^32 - 1 references to one
-    /// node, here or at a worker that did a half. After an error what is held is as before, and nothing is offered.
+    /// The call may wait. The errors are `NodeLimit`, where every slot was seen taken, by this
+    /// worker after dead nodes were taken back and, where an operation may begin anew, names
+    /// without references given up, where the turns that this worker is allowed are spent, or where
+    /// one that did a half stopped so; `Memory`; and `References` at 2^32 - 1 references to one
+    /// node, here or at a worker that did a half. After an error what is held is as before, and
+    /// nothing is offered.
     ///
-    /// No call gives turns back, and the members of `team`, whose turns have no limit, never come to one.
+    /// No call gives turns back, and the members of `team`, whose turns have no limit, never come
+    /// to one.
     pub fn apply_forked<R: Wait>(&mut self, rt: &R, op: Op, f: &Ref, g: &Ref) -> Result<Ref, Stop>
         requires f { IsHeld (holding_in self.old.names) (entry_of f.now) }
         requires g { IsHeld (holding_in self.old.names) (entry_of g.now) }
@@ -167,8 +170,9 @@ impl<R: Wait> Diagrams<R> for Applier {
     ghost use Rattle.std.specs.List.{All, find};
     ghost use Rattle.eqc_tree.specs.Assigned.{assigned, assignments, AreDistinct, DependsOnlyOn, IsSatisfiable};
 
-    /// Stops for nodes only where every slot was seen taken, after dead nodes were taken back and, where an operation may begin
-    /// anew, names without references given up, and for references only at 2^32 - 1 to one node.
+    /// Stops for nodes only where every slot was seen taken, after dead nodes were taken back and,
+    /// where an operation may begin anew, names without references given up, and for references
+    /// only at 2^32 - 1 to one node.
     fn literal(&mut self, rt: &R, var: u16) -> Result<Ref, Stop>
         requires { var < (holding_in self.old.names).variables }
         ensures ok { IfOk result (λ r. Gains (holding_in self.old.names) (holding_in self.new.names) (entry_of r) (λ a. a var)) }
@@ -198,7 +202,8 @@ impl<R: Wait> Diagrams<R> for Applier {
         self.apply_forked(rt, op, f, g)
     }
 
-    /// Does one operation that another worker offered, as `serve` does, which it is: so it makes room where nothing comes.
+    /// Does one operation that another worker offered, as `serve` does, which it is: so it makes
+    /// room where nothing comes.
     fn help(&mut self, rt: &R) -> bool
         ensures kept { Keeps (holding_in self.old.names) (holding_in self.new.names) }
         ensures worker { IsWorker self.old.names.worker self.new.names.worker }
@@ -207,8 +212,8 @@ impl<R: Wait> Diagrams<R> for Applier {
         self.serve(rt)
     }
 
-    /// Three applies. Stops for nodes as `apply` does, and for references where a worker that did a half told so, or at
-    /// 2^32 - 3 or more to one node, to which two more may come on the way.
+    /// Three applies. Stops for nodes as `apply` does, and for references where a worker that did a
+    /// half told so, or at 2^32 - 3 or more to one node, to which two more may come on the way.
     #[tactic(auto, using(eqc_tree::proofs::HoldingLemmas::counts_itself))]
     fn ite(&mut self, rt: &R, f: &Ref, g: &Ref, h: &Ref) -> Result<Ref, Stop>
         requires f { IsHeld (holding_in self.old.names) (entry_of f.now) }
@@ -236,8 +241,8 @@ impl<R: Wait> Diagrams<R> for Applier {
         either
     }
 
-    /// Found on a copy of the diagram's nodes in a store of one thread: so it takes no node, and stops for want of memory
-    /// alone.
+    /// Found on a copy of the diagram's nodes in a store of one thread: so it takes no node, and
+    /// stops for want of memory alone.
     fn least(
         &mut self,
         _rt: &R,
@@ -269,8 +274,8 @@ impl NodeCount for Applier {
 
     ghost room = { λ a. a.names.worker.known.core.sizes.names - 2 };
 
-    /// About as many as all workers' nodes take, by the stripe that this worker saw last, and no fewer than those that it holds by
-    /// itself, where there is room for as many.
+    /// About as many as all workers' nodes take, by the stripe that this worker saw last, and no
+    /// fewer than those that it holds by itself, where there is room for as many.
     fn nodes_in_use(&self) -> u32
         ensures room { result ≤ self.now.names.worker.known.core.sizes.names - 2 }
         ensures own { result < self.now.names.worker.known.core.sizes.names - 2 → length self.now.names.worker.known.core.held ≤ result }

@@ -33,7 +33,7 @@ impl Held {
 }
 
 /// The expansion of two names, one of which is no constant. All four cofactors are held then. The
-/// error is 72 alone.
+/// error is `Stop::Memory` alone.
 pub(crate) fn expand(names: &mut Held, f: u32, g: u32) -> Result<Expansion, Stop>
     requires f { IsHeld names.old.worker.known.core f }
     requires g { IsHeld names.old.worker.known.core g }

@@ -1,5 +1,5 @@
-//! What an applier has to do with boxes: in the first levels of an operation it offers one half to other workers, and takes
-//! back what they came to.
+//! What an applier has to do with boxes: in the first levels of an operation it offers one half to
+//! other workers, and takes back what they came to.
 ghost use Rattle.std.specs.Prelude.{◌≡◌, [], IfSome, IfOk, IfErr};
 
 use crate::applier::Applier;
@@ -47,9 +47,9 @@ impl Applier {
     }
 
     /// The result of the operation on the high cofactors of the task that was on top, where it was
-    /// offered and another worker did it. Where one is still at it, there is none, and it stays offered: rather than wait,
-    /// this worker does it too, and both find in the shared cells what the other did. The call may wait. The errors are
-    /// why it stopped there, and 72.
+    /// offered and another worker did it. Where one is still at it, there is none, and it stays
+    /// offered: rather than wait, this worker does it too, and both find in the shared cells what
+    /// the other did. The call may wait. The errors are why it stopped there, and `Stop::Memory`.
     pub(crate) fn take_back<R: Wait>(
         &mut self,
         rt: &R,
@@ -95,7 +95,8 @@ impl Applier {
         self.retract(level);
     }
 
-    /// Empties the boxes in which answers lie that came too late to be waited for: what they name is needed no more.
+    /// Empties the boxes in which answers lie that came too late to be waited for: what they name
+    /// is needed no more.
     pub(crate) fn take_late(&mut self)
         ensures names { Extends self.old.names self.new.names }
     {
@@ -107,8 +108,8 @@ impl Applier {
         }
     }
 
-    /// Whether another worker is still at what was offered at this level some time ago. An answer that came since is
-    /// given back.
+    /// Whether another worker is still at what was offered at this level some time ago. An answer
+    /// that came since is given back.
     fn withdraw_late(&mut self, level: u32) -> bool
         ensures names { Extends self.old.names self.new.names }
         ensures tasks { self.new.tasks ≡ self.old.tasks }
@@ -124,7 +125,8 @@ impl Applier {
         false
     }
 
-    /// Takes back what is offered at a level. Where another worker is at it, its answer is not waited for.
+    /// Takes back what is offered at a level. Where another worker is at it, its answer is not
+    /// waited for.
     fn retract(&mut self, level: u32)
         ensures names { Extends self.old.names self.new.names }
         ensures marks { KeepsMarks self.old.names.worker.known.core self.new.names.worker.known.core }

@@ -190,8 +190,8 @@ impl Held {
         variable
     }
 
-    /// The cofactors of a name: what it is where the variable is 0, and where it is 1. Both are held
-    /// then. The error is 72 alone.
+    /// The cofactors of a name: what it is where the variable is 0, and where it is 1. Both are
+    /// held then. The error is 72 alone.
     pub(crate) fn cofactors(&mut self, variable: u16, x: u32) -> Result<(u32, u32), Stop>
         requires held { IsHeld self.old.worker.known.core x }
         requires below { variable < self.old.variables }
@@ -305,8 +305,9 @@ impl Held {
         self.worker.held().saturating_sub(self.referred)
     }
 
-    /// How many of them a worker may hold. Once three quarters of the slots are taken, half of all are shared out among the
-    /// workers for it, so that what one keeps for itself doesn't starve another. Until then a worker may keep all.
+    /// How many of them a worker may hold. Once three quarters of the slots are taken, half of all
+    /// are shared out among the workers for it, so that what one keeps for itself doesn't starve
+    /// another. Until then a worker may keep all.
     pub(crate) fn share_of_slots(&self) -> u64 {
         let workers = u64::from(self.worker.workers().max(1));
         let slots = u64::from(self.worker.slots());

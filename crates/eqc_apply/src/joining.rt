@@ -116,7 +116,8 @@ impl Applier {
     /// number of the other's worker is out no more, and at any other worker it is taken in. The
     /// call takes no memory, and waits for nobody.
     ///
-    /// The other one's worker is not worker 0, and together they hold each reference at most 2^38 times.
+    /// The other one's worker is not worker 0, and together they hold each reference at most 2^38
+    /// times.
     pub fn absorb(&mut self, other: Applier)
         requires number { 0 < other.names.worker.known.core.number }
         requires forest { other.names.worker.forest ≡ self.old.names.worker.forest }

@@ -12,10 +12,11 @@ use eqc_tree::Stop;
 use std::alloc::Global;
 
 impl Held {
-    /// The least assignment under which a name's function is true, in lexicographic order over these variables.
+    /// The least assignment under which a name's function is true, in lexicographic order over
+    /// these variables.
     ///
-    /// It makes no node. Nodes are read once each, and held then, as those that an operation reads; the rest is done on
-    /// the copy, which others don't see. The error is 72 alone.
+    /// It makes no node. Nodes are read once each, and held then, as those that an operation reads;
+    /// the rest is done on the copy, which others don't see. The error is `Stop::Memory` alone.
     pub(crate) fn least(
         &mut self,
         alloc: Global,

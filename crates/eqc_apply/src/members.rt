@@ -88,9 +88,9 @@ fn next_member(alloc: Global, lead: &mut Applier) -> Result<Applier, Stop>
 ///
 /// `vars` is the number of variables, `nodes` the room for nodes, from 1 to 1,048,574, that all
 /// share, `cells` the number of cells of the cache, from 1 to 1,048,576, that all share, and
-/// `workers` the number of members, from 1 to 64. In the first `forks` levels of an operation, of which
-/// there are at most 16, one half is offered to the other members. `allowance` tells what each member may
-/// do where there is little room. The error is 72 alone.
+/// `workers` the number of members, from 1 to 64. In the first `forks` levels of an operation, of
+/// which there are at most 16, one half is offered to the other members. `allowance` tells what
+/// each member may do where there is little room. The error is `Stop::Memory` alone.
 pub fn team_with(
     alloc: Global,
     vars: u16,
@@ -119,8 +119,9 @@ pub fn team_with(
     Ok(members)
 }
 
-/// The members of a team as `team_with` makes them, whose operations begin anew where the forest is full, and take as many
-/// turns as they need: so they stop for nodes only where every slot was seen taken.
+/// The members of a team as `team_with` makes them, whose operations begin anew where the forest is
+/// full, and take as many turns as they need: so they stop for nodes only where every slot was seen
+/// taken.
 pub fn team(
     alloc: Global,
     vars: u16,

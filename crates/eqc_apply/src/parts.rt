@@ -14,8 +14,9 @@ use std::sync::Wait;
 const BITS: u32 = 6;
 
 impl Applier {
-    /// The name of an operation's result, as `go` has it. Outputs have much in common, so that workers often do one
-    /// operation at the same time: each begins with a part of its own, and finds the others' in the shared cells.
+    /// The name of an operation's result, as `go` has it. Outputs have much in common, so that
+    /// workers often do one operation at the same time: each begins with a part of its own, and
+    /// finds the others' in the shared cells.
     pub(crate) fn go_in_parts<R: Wait>(
         &mut self,
         rt: &R,
@@ -33,8 +34,8 @@ impl Applier {
         self.go(rt, op, f, g)
     }
 
-    /// Does the parts of an operation with which this worker begins, the smallest first. The first worker has none: it
-    /// begins where the operation does.
+    /// Does the parts of an operation with which this worker begins, the smallest first. The first
+    /// worker has none: it begins where the operation does.
     fn do_parts<R: Wait>(&mut self, rt: &R, op: Op, f: u32, g: u32) -> Result<(), Stop>
         requires f { IsHeld self.old.names.worker.known.core f }
         requires g { IsHeld self.old.names.worker.known.core g }
@@ -50,7 +51,8 @@ impl Applier {
         Ok(())
     }
 
-    /// Does the part of an operation below so many levels: in each the half that a bit of the worker's number tells.
+    /// Does the part of an operation below so many levels: in each the half that a bit of the
+    /// worker's number tells.
     fn do_part<R: Wait>(&mut self, rt: &R, op: Op, f: u32, g: u32, levels: u32) -> Result<(), Stop>
         requires f { IsHeld self.old.names.worker.known.core f }
         requires g { IsHeld self.old.names.worker.known.core g }
@@ -71,7 +73,8 @@ impl Applier {
         Ok(())
     }
 
-    /// The low or the high cofactors of two names, one of which is no constant. They are held then. The error is 72 alone.
+    /// The low or the high cofactors of two names, one of which is no constant. They are held then.
+    /// The error is `Stop::Memory` alone.
     fn half(&mut self, f: u32, g: u32, high: bool) -> Result<(u32, u32), Stop>
         requires f { IsHeld self.old.names.worker.known.core f }
         requires g { IsHeld self.old.names.worker.known.core g }

@@ -47,7 +47,8 @@ pub(crate) struct PlainCopy {
 }
 
 impl PlainCopy {
-    /// A copy of the two constants, with room for all nodes of the forest. The error is 72 alone.
+    /// A copy of the two constants, with room for all nodes of the forest. The error is
+    /// `Stop::Memory` alone.
     pub(crate) fn new(alloc: Global, names: &Held) -> Result<PlainCopy, Stop>
         ensures faithful { IfOk result (IsFaithful names.now) }
         ensures idle { IfOk result (λ c. c.visits.items ≡ []) }
@@ -75,7 +76,8 @@ impl PlainCopy {
         self.places[x as usize]
     }
 
-    /// Copies a name with all nodes below it, each once, and answers its number in the store. The error is 72 alone.
+    /// Copies a name with all nodes below it, each once, and answers its number in the store. The
+    /// error is `Stop::Memory` alone.
     pub(crate) fn copy(&mut self, names: &mut Held, f: u32) -> Result<u32, Stop>
         requires held { IsHeld names.old.worker.known.core f }
         requires faithful { IsFaithful names.old self.old }

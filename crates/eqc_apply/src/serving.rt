@@ -14,15 +14,16 @@ use eqc_tree::{Op, References};
 use std::mem;
 use std::sync::Wait;
 
-/// So many pauses a worker without work makes, and looks through the boxes of others before each, before it says that there
-/// is nothing to do. In the last pause it leaves the processor to others.
+/// So many pauses a worker without work makes, and looks through the boxes of others before each,
+/// before it says that there is nothing to do. In the last pause it leaves the processor to others.
 const PAUSES: u32 = 8;
 
-/// So often in succession there is nothing to do before a worker makes room for others, which is some milliseconds. Members that ask
-/// for a short while alone ask more often than that.
+/// So often in succession there is nothing to do before a worker makes room for others, which is
+/// some milliseconds. Members that ask for a short while alone ask more often than that.
 const VAIN_LOOKS: u32 = 500;
 
-/// Where there are many boxes it looks through them before fewer pauses: at most into about so many boxes, or into each once.
+/// Where there are many boxes it looks through them before fewer pauses: at most into about so many
+/// boxes, or into each once.
 const LOOKS: u32 = 512;
 
 impl Applier {
@@ -62,8 +63,8 @@ impl Applier {
         }
     }
 
-    /// Does the operation in a box of another worker, if it is still to be done, and says whether it
-    /// was.
+    /// Does the operation in a box of another worker, if it is still to be done, and says whether
+    /// it was.
     fn serve_box<R: Wait>(&mut self, rt: &R, b: u32) -> bool
         requires there { b < 16 * self.old.names.worker.known.core.sizes.workers }
         ensures kept { Keeps (holding_in self.old.names) (holding_in self.new.names) }
@@ -109,8 +110,8 @@ impl Applier {
         false
     }
 
-    /// Looks through the boxes of so many levels a few times, with pauses between. Who has no turns left would only stop what
-    /// others offer.
+    /// Looks through the boxes of so many levels a few times, with pauses between. Who has no turns
+    /// left would only stop what others offer.
     fn look_through<R: Wait>(&mut self, rt: &R, levels: u32) -> bool
         ensures kept { Keeps (holding_in self.old.names) (holding_in self.new.names) }
         ensures worker { IsWorker self.old.names.worker self.new.names.worker }
@@ -135,8 +136,8 @@ impl Applier {
         false
     }
 
-    /// Makes room for others, where for some time there was nothing to do or where there can be nothing: what is kept
-    /// without references is given up.
+    /// Makes room for others, where for some time there was nothing to do or where there can be
+    /// nothing: what is kept without references is given up.
     fn give_up_idle(&mut self)
         ensures names { Stays self.old.names self.new.names }
     {
@@ -147,9 +148,10 @@ impl Applier {
         }
     }
 
-    /// Does one operation that another member of the team offered, if there is one, and says whether
-    /// it did. Why it stopped, if it did, its owner is told. Where nothing is offered for some time, or where nothing can
-    /// be, it gives up what it keeps without references, so that others have the room.
+    /// Does one operation that another member of the team offered, if there is one, and says
+    /// whether it did. Why it stopped, if it did, its owner is told. Where nothing is offered for
+    /// some time, or where nothing can be, it gives up what it keeps without references, so that
+    /// others have the room.
     ///
     /// What is held is as before. The call may wait.
     pub fn serve<R: Wait>(&mut self, rt: &R) -> bool

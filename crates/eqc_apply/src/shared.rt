@@ -16,8 +16,8 @@ impl Held {
         self.worker.workers() > 1
     }
 
-    /// The result of an operation, where the shared cells have it. It is held then. The error is 72
-    /// alone, and then nothing was found.
+    /// The result of an operation, where the shared cells have it. It is held then. The error is
+    /// `Stop::Memory` alone, and then nothing was found.
     pub(crate) fn look_up(&mut self, op: Op, f: u32, g: u32) -> Result<Option<u32>, Stop>
         requires f { IsHeld self.old.worker.known.core f }
         requires g { IsHeld self.old.worker.known.core g }

@@ -58,7 +58,8 @@ pub fn give_parcel(worker: &mut Worker, parcel: Parcel)
 /// Puts a parcel into box `b`, whose references the box then has, and gives back what it had.
 ///
 /// `b` is less than 16 for each worker, and worker w's boxes are those from 16 w on. The references
-/// of the parcel are held, and a result is right. No scan is under way, and at most 2^39 names are held.
+/// of the parcel are held, and a result is right. No scan is under way, and at most 2^39 names are
+/// held.
 pub fn put(worker: &mut Worker, b: u32, parcel: Parcel)
     requires { MayPut worker.old.known b parcel }
     ensures changes { Exchanges (parcel_names parcel) [] worker.old worker.new }

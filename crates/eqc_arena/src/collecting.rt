@@ -114,8 +114,8 @@ fn try_entry(
     true
 }
 
-// Takes the dead nodes of a stripe back, and gives their number. The last entry is tried first: what
-// takes the place of an entry that went has been tried.
+// Takes the dead nodes of a stripe back, and gives their number. The last entry is tried first:
+// what takes the place of an entry that went has been tried.
 pub(crate) fn take_stripe<R: Wait>(
     worker: &mut Worker,
     rt: &R,
@@ -141,8 +141,8 @@ pub(crate) fn take_stripe<R: Wait>(
     taken
 }
 
-// Tries to take the node of a word back, where its stripe's map has the word: it may have been taken
-// back since its count fell, and made anew.
+// Tries to take the node of a word back, where its stripe's map has the word: it may have been
+// taken back since its count fell, and made anew.
 fn take_word<R: Wait>(worker: &mut Worker, rt: &R, word: u64, fallen: &mut Fallen) -> bool
     requires rest { MayBegin worker.old.known.core }
     requires room { length worker.old.known.core.held ≤ 2 ^ 39 }
@@ -203,12 +203,13 @@ fn turn<R: Wait>(worker: &mut Worker, rt: &R, fallen: &mut Fallen) -> u32
 }
 
 /// Empties all cells, and takes dead nodes back, in turns over all stripes, until there are none.
-/// Within a turn it goes on with the children that fell to one owner. It gives how many nodes were taken back, 2^32 - 1 at most.
+/// Within a turn it goes on with the children that fell to one owner. It gives how many nodes were
+/// taken back, 2^32 - 1 at most.
 ///
-/// No scan is under way, the worker's first announcement word announces nothing, and nothing is claimed or in hand. There is
-/// a cell, and at most 2^39 names are held. The worker holds what it held.
-/// Where it is alone, holds nothing, none of its announcement words but the first announces a name
-/// and all boxes are empty, no slot has a count above 0 then.
+/// No scan is under way, the worker's first announcement word announces nothing, and nothing is
+/// claimed or in hand. There is a cell, and at most 2^39 names are held. The worker holds what it
+/// held. Where it is alone, holds nothing, none of its announcement words but the first announces a
+/// name and all boxes are empty, no slot has a count above 0 then.
 #[inline(never)]
 pub fn collect<R: Wait>(worker: &mut Worker, rt: &R) -> u32
     requires rest { MayBegin worker.old.known.core }

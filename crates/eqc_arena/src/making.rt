@@ -157,7 +157,8 @@ fn attempt_after<R: Wait>(
     attempt(worker, rt, var, low, high)
 }
 
-// The node, where every slot was seen taken: after each attempt in vain more dead nodes are taken back.
+// The node, where every slot was seen taken: after each attempt in vain more dead nodes are taken
+// back.
 fn insist<R: Wait>(
     worker: &mut Worker,
     rt: &R,
@@ -181,8 +182,8 @@ fn insist<R: Wait>(
     attempt_after(worker, rt, Effort::All, var, low, high)
 }
 
-/// The one node of a variable over two children: a reference of the node where there is one, else of
-/// a new one in a free slot. Where both children are the same it is one of the child.
+/// The one node of a variable over two children: a reference of the node where there is one, else
+/// of a new one in a free slot. Where both children are the same it is one of the child.
 ///
 /// No scan is under way, the worker's first announcement word announces nothing, and nothing is
 /// claimed or in hand. There is a cell, at most 2^39 names are held, the children are held or

@@ -63,8 +63,8 @@ pub fn give_back(worker: &mut Worker, f: Ref)
 
 /// The variable of a node that is held, and references of its children, the one at 0 first.
 ///
-/// `f` is no constant, and no scan is under way. The error is 73 alone, at 2^32 - 2 names held: then
-/// the same names are held as before.
+/// `f` is no constant, and no scan is under way. The error is 73 alone, at 2^32 - 2 names held:
+/// then the same names are held as before.
 pub fn children(worker: &mut Worker, f: &Ref) -> Result<(u16, Ref, Ref), Stop>
     requires ready { IsReady worker.old.known.core }
     requires held { 0 < times f.now.number worker.old.known.core.held }

@@ -33,8 +33,8 @@ fn refusal(alloc: Global, text: &[u8], limit: u32) -> Result<Option<Refusal>, Al
     }
 }
 
-/// What is at fault in the line that a text is refused for, which is put into `line`, as what stands before it is into
-/// `reader`. Fails where memory is refused.
+/// What is at fault in the line that a text is refused for, which is put into `line`, as what
+/// stands before it is into `reader`. Fails where memory is refused.
 fn finding_by(
     alloc: Global,
     text: &[u8],
@@ -70,7 +70,8 @@ fn finding_in_line(
     finding_by(alloc, text, refusal, &mut reader, &mut line)
 }
 
-/// What is at fault in a text that may have so many bytes and is refused. Fails where memory is refused.
+/// What is at fault in a text that may have so many bytes and is refused. Fails where memory is
+/// refused.
 fn finding(
     alloc: Global,
     text: &[u8],
@@ -97,9 +98,10 @@ fn finding(
     finding_in_line(alloc, text, refusal)
 }
 
-/// What is at fault in a text that may have `limit` bytes, fewer than 2^31, for a reader of its refusal: it is read once more, and then the line of the refusal is
-/// looked at against what stands before it. None where the text is read, and where it is refused for a latch, of which
-/// nothing is named. Fails where memory is refused.
+/// What is at fault in a text that may have `limit` bytes, fewer than 2^31, for a reader of its
+/// refusal: it is read once more, and then the line of the refusal is looked at against what stands
+/// before it. None where the text is read, and where it is refused for a latch, of which nothing is
+/// named. Fails where memory is refused.
 pub fn explain(alloc: Global, text: &[u8], limit: u32) -> Result<Option<Finding>, AllocError>
     requires { limit < 2 ^ 31 }
     ensures { IfOk result (λ found. IsExplained limit text.now found) }

@@ -1,4 +1,5 @@
-//! Laws of the definitions that `read` is proved against. The functions do nothing: their contracts are the laws.
+//! Laws of the definitions that `read` is proved against. The functions do nothing: their contracts
+//! are the laws.
 ghost use Rattle.eqc_blif.specs.Laws.{TextsFollow, FirstFaultStays, FoundIsFirst, FirstIsFound, CommentsChangeNothing, TrailingBlanksChangeNothing, BlankLinesOnlyRenumber, NumbersPlayNoPart, SkippedLinesChangeNothing, LineNumbersRise, LinesMakeTheText, LinesAreCutAgain, LibrariesHaveNoNameTwice, RowsFitTheirCovers};
 ghost use Rattle.eqc_blif.specs.PlainText.{WordsAreReadBack, LibrariesAreReadBack};
 
@@ -8,7 +9,8 @@ pub fn first_fault_stays()
     ensures fault { FirstFaultStays }
 {}
 
-/// The fault that a text is refused for is a line with a code before which no line has one, and there is at most one.
+/// The fault that a text is refused for is a line with a code before which no line has one, and
+/// there is at most one.
 pub fn first_fault_is_one()
     ensures first { FoundIsFirst }
     ensures one { FirstIsFound }
@@ -43,14 +45,15 @@ pub fn libraries_have_no_name_twice()
     ensures { LibrariesHaveNoNameTwice }
 {}
 
-/// Each row of a library has a place for each column of its cover and one for the output, and all rows of a cover end
-/// alike.
+/// Each row of a library has a place for each column of its cover and one for the output, and all
+/// rows of a cover end alike.
 pub fn rows_fit_their_covers()
     ensures { RowsFitTheirCovers }
 {}
 
-/// Words that stand in lines, with a space between each two and an LF behind each line, are read back as these lines,
-/// and a library is read back from its plain text, which has such a line for each statement.
+/// Words that stand in lines, with a space between each two and an LF behind each line, are read
+/// back as these lines, and a library is read back from its plain text, which has such a line for
+/// each statement.
 pub fn plain_texts_are_read_back()
     ensures words { WordsAreReadBack }
     ensures libraries { LibrariesAreReadBack }

@@ -1,4 +1,5 @@
-//! The names of a model's inputs or outputs, kept so that a model without any takes no memory for them.
+//! The names of a model's inputs or outputs, kept so that a model without any takes no memory for
+//! them.
 ghost use Rattle.std.specs.Prelude.{◌≡◌, [], ◌++◌, IfOk, not, true, false};
 ghost use Rattle.eqc_blif.specs.Words.{words};
 ghost use Rattle.eqc_netlist.specs.Names.{has_twice};
@@ -36,8 +37,8 @@ impl Names {
         Names { key, list: None }
     }
 
-    /// Adds the words of a line, and answers whether no name then stands twice. Where one does, or where memory is
-    /// refused, the names are lost.
+    /// Adds the words of a line, and answers whether no name then stands twice. Where one does, or
+    /// where memory is refused, the names are lost.
     pub(crate) fn add_words(&mut self, alloc: Global, line: &[u8]) -> Result<bool, AllocError>
         ensures once { IfOk result (λ once. once ≡ not (has_twice (self.old ++ words line.now))) }
         ensures added { IfOk result (λ once. once ≡ true → self.new ≡ self.old ++ words line.now) }
@@ -51,8 +52,8 @@ impl Names {
         Ok(once)
     }
 
-    /// The first of the words of a line that stands among the names or the words before it, where one does. The names are
-    /// lost.
+    /// The first of the words of a line that stands among the names or the words before it, where
+    /// one does. The names are lost.
     pub(crate) fn first_twice(&mut self, alloc: Global, line: &[u8]) -> Result<Name, AllocError>
         requires { has_twice (self.old ++ words line.now) ≡ true }
         ensures { IfOk result (λ name. StandsTwice (self.old ++ words line.now) name) }

@@ -1,4 +1,5 @@
-//! The state of reading between two logical lines, closed models and an open one, and what the next line makes of it.
+//! The state of reading between two logical lines, closed models and an open one, and what the next
+//! line makes of it.
 ghost use Rattle.std.specs.Prelude.{◌≡◌, ◌++◌, IfOk, OnOk, IsTrue, true, false, is_some, Some, None, [], map};
 ghost use Rattle.std.specs.List.{list_any};
 ghost use Rattle.eqc_blif.specs.Words.{words, without_blanks};
@@ -45,7 +46,8 @@ pub(crate) fn is_bad_byte(byte: u8) -> bool
     ((byte < 32) & (byte != b'\t')) | (byte == 127)
 }
 
-/// Whether a byte of the line is no part of a text. All bytes are looked at, which is faster than to stop at the first.
+/// Whether a byte of the line is no part of a text. All bytes are looked at, which is faster than
+/// to stop at the first.
 fn has_bad_byte(line: &[u8]) -> bool
     ensures { result ≡ list_any is_bad_byte line.now }
 {
@@ -133,7 +135,8 @@ impl Reader {
         Ok(None)
     }
 
-    /// A statement in the open model; code 5 where none is open. `rest` stands behind the command, `line` is all.
+    /// A statement in the open model; code 5 where none is open. `rest` stands behind the command,
+    /// `line` is all.
     #[inline(always)]
     fn take_in_model(
         &mut self,
@@ -184,8 +187,8 @@ impl Reader {
     }
 
     /// Takes a logical line, and answers its code where it has one.
-    // What each line goes through stays within the loop of `read`, though the search for a line at fault calls it too: as a
-    // call it made short lines half as slow again.
+    // What each line goes through stays within the loop of `read`, though the search for a line at
+    // fault calls it too: as a call it made short lines half as slow again.
     #[inline(always)]
     pub(crate) fn take_line(&mut self, alloc: Global, line: &[u8]) -> Result<Option<u8>, AllocError>
         ensures { IfOk result (λ code. TakesLine self.old line.now code self.new) }
@@ -211,7 +214,8 @@ impl Reader {
         self.open_model.as_ref().unwrap().last_cover()
     }
 
-    /// The name that stands twice in the inputs of the open model with the words of `line`. The inputs are lost.
+    /// The name that stands twice in the inputs of the open model with the words of `line`. The
+    /// inputs are lost.
     pub(crate) fn input_twice(&mut self, alloc: Global, line: &[u8]) -> Result<Name, AllocError>
         requires opened { is_some self.old.open_model ≡ true }
         requires twice { has_twice ((current self.old).inputs ++ words line.now) ≡ true }
@@ -221,7 +225,8 @@ impl Reader {
         model.input_twice(alloc, line)
     }
 
-    /// The name that stands twice in the outputs of the open model with the words of `line`. The outputs are lost.
+    /// The name that stands twice in the outputs of the open model with the words of `line`. The
+    /// outputs are lost.
     pub(crate) fn output_twice(&mut self, alloc: Global, line: &[u8]) -> Result<Name, AllocError>
         requires opened { is_some self.old.open_model ≡ true }
         requires twice { has_twice ((current self.old).outputs ++ words line.now) ≡ true }

@@ -33,8 +33,8 @@ fn take_lines(alloc: Global, text: &[u8], reader: &mut Reader) -> Result<(), Ref
     Ok(())
 }
 
-/// Takes all lines of a text, and closes the model that they leave open. Fails at the first fault, or where memory is
-/// refused.
+/// Takes all lines of a text, and closes the model that they leave open. Fails at the first fault,
+/// or where memory is refused.
 fn take_text(alloc: Global, text: &[u8], reader: &mut Reader) -> Result<(), Refusal>
     requires short { length text.now < 2 ^ 31 }
     ensures taken { IfOk result (λ _. (first_fault reader.old (logical_lines text.now) ≡ None) × (reader.new.closed ≡ models (after reader.old (logical_lines text.now)))) }
@@ -45,7 +45,8 @@ fn take_text(alloc: Global, text: &[u8], reader: &mut Reader) -> Result<(), Refu
     Ok(())
 }
 
-/// The models of a text, of which there may be none. Fails at the first fault, or where memory is refused.
+/// The models of a text, of which there may be none. Fails at the first fault, or where memory is
+/// refused.
 fn models_in(alloc: Global, text: &[u8]) -> Result<Library, Refusal>
     requires short { length text.now < 2 ^ 31 }
     ensures models { IfOk result (λ library. (first_fault start (logical_lines text.now) ≡ None) × (library ≡ models (after start (logical_lines text.now)))) }
@@ -58,11 +59,13 @@ fn models_in(alloc: Global, text: &[u8]) -> Result<Library, Refusal>
     }
 }
 
-/// Reads a netlist (BLIF 1992, in the profile of `docs/blif.md`) of at most `limit` bytes, which are fewer than 2^31.
+/// Reads a netlist (BLIF 1992, in the profile of `docs/blif.md`) of at most `limit` bytes, which
+/// are fewer than 2^31.
 ///
-/// The library has the models of the text in their order. Else the refusal is the first fault: code 2 on line 0 for a
-/// text of more than `limit` bytes, before all else; codes 1 and 3 to 12 on the first line that has one, with the lowest
-/// of its codes; code 13 on line 0 for a text without a statement. Line 0 with code 72 says that memory was refused.
+/// The library has the models of the text in their order. Else the refusal is the first fault: code
+/// 2 on line 0 for a text of more than `limit` bytes, before all else; codes 1 and 3 to 12 on the
+/// first line that has one, with the lowest of its codes; code 13 on line 0 for a text without a
+/// statement. Line 0 with code 72 says that memory was refused.
 pub fn read_within(alloc: Global, text: &[u8], limit: u32) -> Result<Library, Refusal>
     requires { limit < 2 ^ 31 }
     ensures library { IfOk result (λ library. outcome limit text.now ≡ Ok library) }
@@ -78,7 +81,8 @@ pub fn read_within(alloc: Global, text: &[u8], limit: u32) -> Result<Library, Re
     Ok(library)
 }
 
-/// Reads a netlist as `read_within` does where a text may have at most 16,777,216 bytes: code 2 on line 0 for more of them.
+/// Reads a netlist as `read_within` does where a text may have at most 16,777,216 bytes: code 2 on
+/// line 0 for more of them.
 pub fn read(alloc: Global, text: &[u8]) -> Result<Library, Refusal>
     ensures library { IfOk result (λ library. outcome 16777216 text.now ≡ Ok library) }
     ensures fault { IfErr result (λ refusal. (refusal ≡ record { line = 0; code = 72 }) ⊎ (outcome 16777216 text.now ≡ Err (refusal.line, refusal.code))) }

@@ -1,11 +1,13 @@
-//! Room in vectors of which most keep one item only: they get no more of it than the first push needs.
+//! Room in vectors of which most keep one item only: they get no more of it than the first push
+//! needs.
 ghost use Rattle.std.specs.Prelude.{◌≡◌, [], ◌∷◌, ◌++◌, is_ok, if◌then◌else◌, OnOk};
 ghost use Rattle.smallvec.specs.SmallVec.{HasRoomFor};
 
 use smallvec::SmallVec;
 use std::alloc::AllocError;
 
-/// Pushes a value, with room for no more where it is the first: most covers have one row, and most models few covers.
+/// Pushes a value, with room for no more where it is the first: most covers have one row, and most
+/// models few covers.
 #[inline]
 pub(crate) fn push_sparing<T: Drop>(items: &mut Vec<T>, value: T) -> Result<(), AllocError>
     ensures { items.new.items ≡ (if is_ok result then items.old.items ++ value ∷ [] else items.old.items) }

@@ -1,4 +1,5 @@
-//! The building of the diagrams of some steps: step by step, and each is given back after its last use.
+//! The building of the diagrams of some steps: step by step, and each is given back after its last
+//! use.
 ghost use Rattle.std.specs.Prelude.{◌≡◌, ◌≢◌, ℕ, List, ◌+◌, ◌<◌, length, [], ◌∷◌, IfOk, IfErr, OnOk, OnErr, IsSome, Some, map, slice_index};
 ghost use Rattle.eqc_tree.specs.Holding.{Keeps};
 ghost use Rattle.eqc_cover.specs.Making.{Makes};
@@ -80,7 +81,8 @@ fn step_diagram<R, D: Diagrams<R>>(
     }
 }
 
-/// Puts the diagram of a step into the table, at a moment, and gives back what is used there for the last time.
+/// Puts the diagram of a step into the table, at a moment, and gives back what is used there for
+/// the last time.
 fn advance<R, D: Diagrams<R>>(
     alloc: Global,
     rt: &R,
@@ -110,7 +112,8 @@ fn advance<R, D: Diagrams<R>>(
     Ok(())
 }
 
-/// Notes a step that is used later than all steps of a turn, so that it is given back then, if it is of no use any more.
+/// Notes a step that is used later than all steps of a turn, so that it is given back then, if it
+/// is of no use any more.
 fn note_due(
     due: &mut BinaryHeap<Reverse<(u64, u32)>>,
     last: u64,
@@ -129,11 +132,13 @@ fn note_due(
 }
 
 impl<X> StepDiagrams<X> {
-    /// Builds the diagrams of these steps, where they aren't there yet, in their turn, counted from 1. Turns come in rising order.
-    /// Each step that they need is made once, unless it is kept, and no other, and what it uses is counted. A step stays where a
-    /// later turn needs it as a goal, or for a step that wasn't made, and is else given back after its last use.
+    /// Builds the diagrams of these steps, where they aren't there yet, in their turn, counted from
+    /// 1. Turns come in rising order. Each step that they need is made once, unless it is kept, and
+    /// no other, and what it uses is counted. A step stays where a later turn needs it as a goal,
+    /// or for a step that wasn't made, and is else given back after its last use.
     ///
-    /// The errors are those of the diagrams, 71, 72 and 73, and 72 where memory is refused. What was built by then stays.
+    /// The errors are those of the diagrams, 71, 72 and 73, and 72 where memory is refused. What
+    /// was built by then stays.
     pub fn complete<R, D: Diagrams<R, Ref = X>>(
         &mut self,
         alloc: Global,

@@ -68,8 +68,9 @@ fn note_goals(
     Ok(())
 }
 
-/// The last moments of the steps that some need, where nothing else is needed. They are gone through from the highest one down,
-/// so that the first use that is met is the last of all. It takes time in proportion to what is needed.
+/// The last moments of the steps that some need, where nothing else is needed. They are gone
+/// through from the highest one down, so that the first use that is met is the last of all. It
+/// takes time in proportion to what is needed.
 pub(crate) fn moments_below(
     alloc: Global,
     steps: &Steps<'_>,

@@ -1,4 +1,5 @@
-//! Truth tables of covers that have few columns and many rows, so that these are gone through once for all instances of a model.
+//! Truth tables of covers that have few columns and many rows, so that these are gone through once
+//! for all instances of a model.
 ghost use Rattle.std.specs.Prelude.{◌≡◌, ◌<◌, nat_eq, Some, length, IfSome};
 ghost use Rattle.std.specs.Map.{lookup};
 ghost use Rattle.eqc_pair.specs.PairOf.{PairOf};
@@ -10,8 +11,8 @@ use eqc_pair::{Pair, recall_laws};
 use indexmap::IndexMap;
 use std::alloc::{AllocError, Global};
 
-/// A cover with so many rows or fewer has no table here: six columns have as many assignments, so that going through its rows takes
-/// no longer than what is made of its table.
+/// A cover with so many rows or fewer has no table here: six columns have as many assignments, so
+/// that going through its rows takes no longer than what is made of its table.
 const FEW_ROWS: usize = 64;
 
 /// The truth table of a cover.
@@ -23,7 +24,8 @@ pub(crate) struct CoverTable {
     pub(crate) table: u64,
 }
 
-/// Tables of covers of the netlists of a pair, each by the number that its rows have in its netlist.
+/// Tables of covers of the netlists of a pair, each by the number that its rows have in its
+/// netlist.
 #[derive(Drop)]
 pub(crate) struct PairTables {
     pub(crate) first: IndexMap<u32, CoverTable>,
@@ -31,8 +33,8 @@ pub(crate) struct PairTables {
     pub(crate) assumed: IndexMap<u32, CoverTable>,
 }
 
-/// Notes the table of the cover that drives a signal, where it has few columns, many rows and no table yet. Fails where memory is
-/// refused.
+/// Notes the table of the cover that drives a signal, where it has few columns, many rows and no
+/// table yet. Fails where memory is refused.
 fn note(flat: &Flat<'_>, s: u32, tables: &mut IndexMap<u32, CoverTable>) -> Result<(), AllocError>
     requires signal { s < length flat.now.drivers }
     requires tables { AreTablesOf flat.now tables.old.entries }
@@ -54,7 +56,8 @@ fn note(flat: &Flat<'_>, s: u32, tables: &mut IndexMap<u32, CoverTable>) -> Resu
     }
 }
 
-/// Notes the tables of the covers that drive the signals of a netlist. Fails where memory is refused.
+/// Notes the tables of the covers that drive the signals of a netlist. Fails where memory is
+/// refused.
 fn note_all(flat: &Flat<'_>, tables: &mut IndexMap<u32, CoverTable>) -> Result<(), AllocError>
     requires { AreTablesOf flat.now tables.old.entries }
     ensures { AreTablesOf flat.now tables.new.entries }
@@ -102,8 +105,9 @@ impl PairTables {
         }
     }
 
-    /// The tables of the covers of a pair that have at most six columns and more than 64 rows. It takes time in proportion to the
-    /// signals and to the rows of these covers. Where memory is refused some are missing.
+    /// The tables of the covers of a pair that have at most six columns and more than 64 rows. It
+    /// takes time in proportion to the signals and to the rows of these covers. Where memory is
+    /// refused some are missing.
     pub(crate) fn of(alloc: Global, pair: &Pair<'_>) -> PairTables
         ensures { ArePairTables pair.now (tables_in result) }
     {

@@ -1,5 +1,5 @@
-//! What steps are needed for: how often others use them that an output needs, until which output they are a signal that is
-//! compared, and how often those used them that were made.
+//! What steps are needed for: how often others use them that an output needs, until which output
+//! they are a signal that is compared, and how often those used them that were made.
 ghost use Rattle.std.specs.Prelude.{◌≡◌, ℕ, ◌+◌, ◌<◌, ◌≤◌, false, true, length, IfOk, slice_index};
 ghost use Rattle.eqc_build.specs.Steps.{goals_of, steps_in};
 ghost use Rattle.eqc_build.specs.Schedule.{end_of, AreUsedUntil};
@@ -11,13 +11,15 @@ use crate::schedule::output_moments;
 use crate::steps::{Steps, Uses};
 use std::alloc::{AllocError, Global};
 
-/// What outputs need steps for. Members that share the outputs of a pair share it. Where nothing is listed, all that is known of
-/// a step is the last moment at which it is used.
+/// What outputs need steps for. Members that share the outputs of a pair share it. Where nothing is
+/// listed, all that is known of a step is the last moment at which it is used.
 #[derive(Drop)]
 pub(crate) struct Demand {
-    /// How often each step is used by others that an output needs; 4,294,967,295 stands for more than is counted.
+    /// How often each step is used by others that an output needs; 4,294,967,295 stands for more
+    /// than is counted.
     pub(crate) uses: Vec<u32>,
-    /// The end of the last output of which each step is a signal that is compared, 0 where it is none.
+    /// The end of the last output of which each step is a signal that is compared, 0 where it is
+    /// none.
     pub(crate) roots: Vec<u64>,
 }
 
@@ -33,7 +35,8 @@ pub(crate) fn count(counts: &mut Vec<u32>, steps: &Uses<'_>)
     }
 }
 
-/// How often each step is used by others that an output needs, where these moments are the last at which steps are used.
+/// How often each step is used by others that an output needs, where these moments are the last at
+/// which steps are used.
 fn uses_where_needed(
     alloc: Global,
     steps: &Steps<'_>,
@@ -60,7 +63,8 @@ impl Demand {
         }
     }
 
-    /// That of all outputs that are not marked, of so many, where these moments are the last at which steps are used.
+    /// That of all outputs that are not marked, of so many, where these moments are the last at
+    /// which steps are used.
     pub(crate) fn of_outputs(
         alloc: Global,
         steps: &Steps<'_>,
@@ -78,15 +82,16 @@ impl Demand {
         Ok(Demand { uses, roots })
     }
 
-    /// The end of the last output of which a step is a signal that is compared, 0 where none is known.
+    /// The end of the last output of which a step is a signal that is compared, 0 where none is
+    /// known.
     pub(crate) fn root_end(&self, s: u32) -> u64
         ensures { result ≡ slice_index self.now.roots.items s }
     {
         self.roots.get(s as usize).copied().unwrap_or(0)
     }
 
-    /// Whether all that use a step were made, and it is no signal of an output that is compared after a moment, where `used`
-    /// tells how often steps were used.
+    /// Whether all that use a step were made, and it is no signal of an output that is compared
+    /// after a moment, where `used` tells how often steps were used.
     pub(crate) fn is_met(&self, used: &[u32], s: u32, at: u64) -> bool
         ensures met { result ≡ true → IsMet self.now used.now s at }
         ensures unmet { result ≡ false → IsMet self.now used.now s at → ⊥ }

@@ -1,12 +1,13 @@
-//! The last moments at which steps are used, noted for all steps or only for those that an output needs.
+//! The last moments at which steps are used, noted for all steps or only for those that an output
+//! needs.
 ghost use Rattle.std.specs.Prelude.{◌≡◌, ◌<◌, length, slice_index};
 ghost use Rattle.eqc_build.specs.Listed.{listed, moment_in, moments_in};
 
 use indexmap::IndexMap;
 use std::marker::Model;
 
-/// The last moment at which each step of a pair is used, 0 where no output needs it. Contracts see a list with a place for each
-/// step. Members that share the outputs of a pair share it.
+/// The last moment at which each step of a pair is used, 0 where no output needs it. Contracts see
+/// a list with a place for each step. Members that share the outputs of a pair share it.
 #[derive(Drop)]
 pub(crate) struct Moments {
     noted: Noted,

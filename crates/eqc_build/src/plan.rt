@@ -1,4 +1,5 @@
-//! Plans of a comparison of all outputs, or of what some steps need: the steps of the pair, and when each is used for the last time.
+//! Plans of a comparison of all outputs, or of what some steps need: the steps of the pair, and
+//! when each is used for the last time.
 ghost use Rattle.std.specs.Prelude.{◌≡◌, ◌<◌, length, IfOk};
 ghost use Rattle.eqc_build.specs.Schedule.{AreWithin};
 ghost use Rattle.eqc_build.specs.Turns.{IsTurn, AreTurns, IsDemand};
@@ -20,7 +21,8 @@ pub struct Plan<'a> {
     pub(crate) demand: Demand,
 }
 
-/// The plan of a comparison of all outputs in their order that are not marked. Fails where memory is refused.
+/// The plan of a comparison of all outputs in their order that are not marked. Fails where memory
+/// is refused.
 pub fn plan_of<'a>(alloc: Global, steps: Steps<'a>, marks: &[bool]) -> Result<Plan<'a>, AllocError>
     ensures turns { IfOk result (λ plan. AreTurns plan marks.now) }
     ensures demand { IfOk result (λ plan. IsDemand plan marks.now) }

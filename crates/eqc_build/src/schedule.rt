@@ -1,4 +1,5 @@
-//! When each step is used for the last time, where the outputs that are not marked are compared in their order.
+//! When each step is used for the last time, where the outputs that are not marked are compared in
+//! their order.
 ghost use Rattle.std.specs.Prelude.{◌≡◌, ℕ, ◌+◌, ◌<◌, ◌≤◌, false, length, IfOk, slice_index};
 ghost use Rattle.eqc_build.specs.Steps.{goals_of, steps_in};
 ghost use Rattle.eqc_build.specs.Schedule.{moment, end_of, AreLastMoments, AreUsedUntil, IsRaised};
@@ -57,7 +58,8 @@ pub(crate) fn is_marked(marks: &[bool], output: usize) -> bool
     marks.get(output).copied().unwrap_or(false)
 }
 
-/// The moments at which the outputs that are not marked are compared themselves, of so many outputs.
+/// The moments at which the outputs that are not marked are compared themselves, of so many
+/// outputs.
 pub(crate) fn output_moments(
     alloc: Global,
     steps: &Steps<'_>,
@@ -79,7 +81,8 @@ pub(crate) fn output_moments(
     Ok(last)
 }
 
-/// The last moment at which each step is used, where the outputs that are not marked are compared in their order.
+/// The last moment at which each step is used, where the outputs that are not marked are compared
+/// in their order.
 fn last_moments(
     alloc: Global,
     steps: &Steps<'_>,

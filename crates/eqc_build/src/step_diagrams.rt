@@ -1,4 +1,5 @@
-//! The diagrams of steps that stay from one output to the next, and which of them are to be given back when.
+//! The diagrams of steps that stay from one output to the next, and which of them are to be given
+//! back when.
 ghost use Rattle.std.specs.Prelude.{◌≡◌, ◌==◌, ℕ, ◌<◌, ◌≤◌, [], false, true, not, length, slice_index, IfOk, IsSome, None, Some};
 ghost use Rattle.std.specs.BinaryHeap.{heap_len};
 ghost use Rattle.eqc_build.specs.Building.{Moves, OwnsTable, KeepsLater, Releases, IsLastUse, reference_of};
@@ -17,12 +18,14 @@ use std::alloc::{AllocError, Global};
 use std::cmp::Reverse;
 use std::collections::BinaryHeap;
 
-/// The diagrams of a pair's steps while outputs are compared in turn: what was built for one output stays while a later one needs
-/// it. Contracts see `table`, a list with what may be a reference for each step. In the end all are given back.
+/// The diagrams of a pair's steps while outputs are compared in turn: what was built for one output
+/// stays while a later one needs it. Contracts see `table`, a list with what may be a reference for
+/// each step. In the end all are given back.
 pub struct StepDiagrams<X> {
     /// The reference of each step that has one.
     pub(crate) table: Table<X>,
-    /// The steps that are to be given back after the last moment that uses them, the earliest first.
+    /// The steps that are to be given back after the last moment that uses them, the earliest
+    /// first.
     pub(crate) due: BinaryHeap<Reverse<(u64, u32)>>,
     /// How often each step was used by those that were made, where that is counted.
     pub(crate) used: Vec<u32>,
@@ -32,7 +35,8 @@ pub struct StepDiagrams<X> {
     pub(crate) covers: Covers,
 }
 
-/// Whether a step is of no use after a moment: no output needs it later, or each step is made that uses it.
+/// Whether a step is of no use after a moment: no output needs it later, or each step is made that
+/// uses it.
 fn is_spent<X>(plan: &Plan<'_>, kept: &StepDiagrams<X>, s: u32, at: u64) -> bool
     requires { s < length plan.now.last }
     ensures spent { result ≡ true → IsOfUse plan.now kept.now.used.items s at → ⊥ }
@@ -54,7 +58,8 @@ fn is_over<X>(plan: &Plan<'_>, kept: &StepDiagrams<X>, s: u32, at: u64) -> bool
     i < kept.until.len() && kept.until[i] == at && is_spent(plan, kept, s, at)
 }
 
-/// Gives back the references of those of the steps that are used for the last time at the moment `at`.
+/// Gives back the references of those of the steps that are used for the last time at the moment
+/// `at`.
 pub(crate) fn release<D: References>(
     d: &mut D,
     plan: &Plan<'_>,
@@ -86,7 +91,8 @@ fn is_there<X>(table: &Table<X>, s: u32) -> bool
 }
 
 impl<X> StepDiagrams<X> {
-    /// No diagrams, for the steps of a pair of which each may get one. Fails where memory is refused.
+    /// No diagrams, for the steps of a pair of which each may get one. Fails where memory is
+    /// refused.
     pub fn for_each(alloc: Global, pair: &Pair<'_>) -> Result<StepDiagrams<X>, AllocError>
         ensures size { IfOk result (λ kept. length kept.table ≡ steps_in pair.now) }
         ensures none { IfOk result (λ kept. (s : ℕ) → reference_of kept.table s ≡ None) }
@@ -129,7 +135,8 @@ impl<X> StepDiagrams<X> {
         reference_at(&self.table, step)
     }
 
-    /// Whether diagrams of earlier turns wait to be given back: with none of them there is more room.
+    /// Whether diagrams of earlier turns wait to be given back: with none of them there is more
+    /// room.
     pub fn are_waiting(&self) -> bool
         ensures { result ≡ not (heap_len self.now.due == 0) }
     {

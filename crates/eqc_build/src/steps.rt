@@ -1,5 +1,5 @@
-//! The steps of a pair, in one row: those of the first netlist, those of the second, and those of the assumption, if there is one.
-//! Each makes a signal's value out of values of steps before it.
+//! The steps of a pair, in one row: those of the first netlist, those of the second, and those of
+//! the assumption, if there is one. Each makes a signal's value out of values of steps before it.
 ghost use Rattle.std.specs.Prelude.{◌≡◌, ◌+◌, ◌<◌, ◌≤◌, [], length, option_to_list, slice_index, slice_index_or, IfSome};
 ghost use Rattle.std.specs.Option.{option_copied};
 ghost use Rattle.eqc_cover.specs.Splits.{IsExpansionOf};
@@ -21,7 +21,8 @@ use indexmap::IndexMap;
 use std::alloc::Global;
 use std::marker::Model;
 
-/// The steps of a pair. A step may be chosen in place of another that never has another value: then it alone is made.
+/// The steps of a pair. A step may be chosen in place of another that never has another value: then
+/// it alone is made.
 pub struct Steps<'a> {
     pair: &'a Pair<'a>,
     /// The step of each signal of the first netlist, counted from 0.
@@ -95,7 +96,8 @@ pub enum StepDriver<'a> {
     Variable(u16),
     /// That of this step.
     Copy(u32),
-    /// A cover with these rows, whose columns are these steps, and its value as splits, if it is known.
+    /// A cover with these rows, whose columns are these steps, and its value as splits, if it is
+    /// known.
     Cover {
         columns: Uses<'a>,
         rows: &'a Rows<'a>,
@@ -159,7 +161,8 @@ impl<'a> Uses<'a> {
     }
 }
 
-/// What the step of a netlist uses that is number `step` of its own, where its steps begin at `start`.
+/// What the step of a netlist uses that is number `step` of its own, where its steps begin at
+/// `start`.
 fn uses_in<'a>(
     flat: &'a Flat<'a>,
     chosen: &'a [u32],
@@ -266,8 +269,9 @@ impl<'a> Steps<'a> {
         }
     }
 
-    /// The steps of a pair, with the step that is chosen in place of each, itself where none is listed. It takes time in proportion
-    /// to its signals, and to the rows of covers that have few columns and many rows: these needn't be gone through again.
+    /// The steps of a pair, with the step that is chosen in place of each, itself where none is
+    /// listed. It takes time in proportion to its signals, and to the rows of covers that have few
+    /// columns and many rows: these needn't be gone through again.
     pub fn of(alloc: Global, pair: &'a Pair<'a>, chosen: Vec<u32>) -> Steps<'a>
         requires { IsChoice pair.now chosen.items }
         ensures pair { result.pair ≡ pair.now }
@@ -284,8 +288,9 @@ impl<'a> Steps<'a> {
         Steps::with_tables(alloc, pair, Vec::new(alloc), PairTables::none(alloc))
     }
 
-    /// Keeps as splits the covers of many columns and very many rows that drive several signals of a netlist whose steps are used, by
-    /// their last moments: their rows needn't be gone through for each.
+    /// Keeps as splits the covers of many columns and very many rows that drive several signals of
+    /// a netlist whose steps are used, by their last moments: their rows needn't be gone through
+    /// for each.
     pub(crate) fn keep_wide(&mut self, alloc: Global, last: &Moments)
         requires { length last.now ≡ steps_in self.old.pair }
         ensures { self.new ≡ self.old }
@@ -344,8 +349,8 @@ impl<'a> Steps<'a> {
         }
     }
 
-    /// The steps whose diagrams a comparison of an output needs: those of its two signals and, if there is an assumption, that of
-    /// its output. `output` is below the number of outputs.
+    /// The steps whose diagrams a comparison of an output needs: those of its two signals and, if
+    /// there is an assumption, that of its output. `output` is below the number of outputs.
     pub fn goals(&self, output: usize) -> Goals
         requires { output < length self.now.pair.first.outputs }
         ensures goals { result ≡ goals_of self.now output }

@@ -69,7 +69,8 @@ fn count<X>(entries: &Entries<X>) -> usize
     }
 }
 
-/// Puts a reference in, and answers what was there for the step. Where memory is refused the reference comes back.
+/// Puts a reference in, and answers what was there for the step. Where memory is refused the
+/// reference comes back.
 fn replaced<X>(entries: &mut Entries<X>, s: u32, reference: X) -> Result<Option<X>, X>
     requires within { s < length (references_in entries.old) }
     requires inside { AreInside entries.old }
@@ -138,7 +139,8 @@ impl<X> Table<X> {
         found(&self.entries, s)
     }
 
-    /// Puts a reference in, and answers what was there for the step. Where memory is refused the reference comes back.
+    /// Puts a reference in, and answers what was there for the step. Where memory is refused the
+    /// reference comes back.
     fn replace(&mut self, s: u32, reference: X) -> Result<Option<X>, X>
         requires { s < length self.old }
         ensures before { IfOk result (λ before. before ≡ reference_of self.old s) }
@@ -168,8 +170,8 @@ pub(crate) fn reference_at<X>(table: &Table<X>, s: u32) -> &X
     table.get(s).unwrap()
 }
 
-/// Puts a reference into the table; one that was there for the step is given back. Where memory is refused it is the new
-/// one that is given back. The error is 72 alone.
+/// Puts a reference into the table; one that was there for the step is given back. Where memory is
+/// refused it is the new one that is given back. The error is 72 alone.
 #[tactic(auto, using(crate::proofs::TableLaws::owned_held, crate::proofs::TableLaws::filled, crate::proofs::TableLaws::filled_none))]
 pub(crate) fn put<D: References>(
     d: &mut D,

@@ -101,9 +101,9 @@ fn open_goals<X>(
     Ok(())
 }
 
-/// The steps that are still to be made for the diagrams of some, in their turn, counted from 1: highest first, so that the last
-/// one can be made at once. Until when each step is used in this turn is noted, where there is a place for it. It takes time in
-/// proportion to what they use.
+/// The steps that are still to be made for the diagrams of some, in their turn, counted from 1:
+/// highest first, so that the last one can be made at once. Until when each step is used in this
+/// turn is noted, where there is a place for it. It takes time in proportion to what they use.
 pub(crate) fn wanted<X>(
     alloc: Global,
     plan: &Plan<'_>,

@@ -1,5 +1,5 @@
-//! Covers that have more than six columns and very many rows as splits, so that their rows are gone through once for all instances
-//! of a model.
+//! Covers that have more than six columns and very many rows as splits, so that their rows are gone
+//! through once for all instances of a model.
 ghost use Rattle.std.specs.Prelude.{◌≡◌, ◌+◌, ◌==◌, ◌<◌, ◌≤◌, false, [], length, slice_index_or, IfSome};
 ghost use Rattle.eqc_cover.specs.Splits.{IsExpansionOf};
 ghost use Rattle.eqc_build.specs.WideCovers.{IsMetOf};
@@ -13,7 +13,8 @@ use indexmap::IndexMap;
 use std::alloc::{AllocError, Global};
 use std::marker::Model;
 
-/// A cover with so many rows or fewer isn't kept here: who builds diagrams compares them with those that it met.
+/// A cover with so many rows or fewer isn't kept here: who builds diagrams compares them with those
+/// that it met.
 const FEW_ROWS: usize = 1_024;
 
 /// So many splits of covers of a netlist are kept at most.
@@ -30,8 +31,9 @@ pub(crate) enum Met {
     Split(usize, Expansion),
 }
 
-/// Covers of a netlist with very many rows, each by the number that its rows have there. One that drives several signals is kept as
-/// splits, if it is expanded and there is room. Contracts see the netlist.
+/// Covers of a netlist with very many rows, each by the number that its rows have there. One that
+/// drives several signals is kept as splits, if it is expanded and there is room. Contracts see the
+/// netlist.
 #[derive(Drop)]
 pub(crate) struct WideCovers<'a> {
     flat: &'a Flat<'a>,
@@ -85,7 +87,8 @@ impl<'a> WideCovers<'a> {
         }
     }
 
-    /// Notes the cover that drives a signal, where it has many columns and very many rows. Fails where memory is refused.
+    /// Notes the cover that drives a signal, where it has many columns and very many rows. Fails
+    /// where memory is refused.
     fn note(&mut self, alloc: Global, s: u32) -> Result<(), AllocError>
         requires { s < length self.old.drivers }
         ensures { self.new ≡ self.old }
@@ -111,8 +114,8 @@ impl<'a> WideCovers<'a> {
         }
     }
 
-    /// Notes the covers that drive the signals whose steps are used, by their last moments; those of the netlist begin at `start`. Fails
-    /// where memory is refused.
+    /// Notes the covers that drive the signals whose steps are used, by their last moments; those
+    /// of the netlist begin at `start`. Fails where memory is refused.
     fn note_used(&mut self, alloc: Global, last: &Moments, start: u32) -> Result<(), AllocError>
         requires within { start + length self.old.drivers ≤ length last.now }
         requires few { start ≤ 2097152 }
@@ -128,9 +131,10 @@ impl<'a> WideCovers<'a> {
         Ok(())
     }
 
-    /// Keeps those that drive several signals whose steps are used, by their last moments; those of the netlist begin at `start`. It takes
-    /// time in proportion to the signals, and to what building each such cover once takes without diagrams. Where memory is refused
-    /// some are missing.
+    /// Keeps those that drive several signals whose steps are used, by their last moments; those of
+    /// the netlist begin at `start`. It takes time in proportion to the signals, and to what
+    /// building each such cover once takes without diagrams. Where memory is refused some are
+    /// missing.
     pub(crate) fn keep_used(&mut self, alloc: Global, last: &Moments, start: u32)
         requires within { start + length self.old.drivers ≤ length last.now }
         requires few { start ≤ 2097152 }
@@ -139,7 +143,8 @@ impl<'a> WideCovers<'a> {
         let _ = self.note_used(alloc, last, start);
     }
 
-    /// The value of the cover with these rows, by their number, over so many columns, if it is kept.
+    /// The value of the cover with these rows, by their number, over so many columns, if it is
+    /// kept.
     pub(crate) fn known(&self, rows: u32, columns: usize) -> Option<&Expansion>
         ensures { IfSome result (λ expansion. IsExpansionOf (slice_index_or self.now.rows rows []) columns expansion.now) }
     {

@@ -24,7 +24,8 @@ pub(crate) fn result_in(word: u64, op: Op, first: u32, second: u32) -> Option<u3
     ensures entry { IfSome result (λ found. IsEntry op (first, second) word × (found ≡ result_of word)) }
     ensures other { result ≡ None → IsEntry op (first, second) word → ⊥ }
 {
-    // The fields of a word are apart, so one comparison of words compares the tag and both operands.
+    // The fields of a word are apart, so one comparison of words compares the tag and both
+    // operands.
     let (_, _, _, found) = unpack_cell(word);
     if word != pack_cell(op.tag(), first, second, found) {
         return None;

@@ -1,4 +1,5 @@
-//! Snapshots: a result that the cache has is read under its announcement, with no step on its count.
+//! Snapshots: a result that the cache has is read under its announcement, with no step on its
+//! count.
 ghost use Rattle.std.specs.Prelude.{◌≡◌, ◌-◌, ◌<◌, ◌≤◌, ◌^◌, ◌⊎◌, ◌↔◌, ℕ, length, None, IsTrue, IfSome, IfOk, IfErr, OnOk, OnErr};
 ghost use Rattle.eqc_tree.specs.Tree.{SameFunction};
 ghost use Rattle.eqc_core.specs.View.{phase_at};
@@ -18,16 +19,16 @@ use eqc_guard::reference::Ref;
 use eqc_guard::worker::Worker;
 use eqc_tree::{Op, Stop};
 
-/// A result that the cache had, read without a count: while it is out, it stays, whatever becomes of
-/// the cell and of the counts. It has to be given back by `unpeek`.
+/// A result that the cache had, read without a count: while it is out, it stays, whatever becomes
+/// of the cell and of the counts. It has to be given back by `unpeek`.
 pub struct Snapshot {
     number: u32,
     // The announcement word that has confirmed the result, where that is a node.
     word: u32,
 }
 
-// An announcement word that announces nothing: the first one, which tells of a constant alone, where
-// there is no other.
+// An announcement word that announces nothing: the first one, which tells of a constant alone,
+// where there is no other.
 fn word_for(worker: &Worker) -> u32
     requires { IsQuiet (phase_at worker.now.known.core 0) }
     ensures quiet { IsQuiet (phase_at worker.now.known.core result) }
@@ -79,8 +80,8 @@ fn seek(worker: &mut Worker, op: Op, first: u32, second: u32, cell: u32) -> Opti
 /// The result of an operation, where the cache has it, read without a count.
 ///
 /// Both operands are held or constants, no scan is under way, the worker's first announcement word
-/// announces nothing, and there is a cell. A constant result needs no announcement word. For that of
-/// a node there is none where each of the worker's announcement words but the first announces a
+/// announces nothing, and there is a cell. A constant result needs no announcement word. For that
+/// of a node there is none where each of the worker's announcement words but the first announces a
 /// name. Whatever comes, the same names are held as before, and no count went up or down. A worker
 /// that is alone has a snapshot exactly where the cell of the operands has their entry, and a word
 /// is free for it.

@@ -102,9 +102,10 @@ fn replace(worker: &mut Worker, cell: u32, filled: Option<Filled>)
 /// Stores the result of an operation, which the cache then has until another takes its cell.
 ///
 /// The operands and the result are held or constants, the result is right, there is a cell, and at
-/// most 2^39 names are held. No scan is under way, and the worker's first announcement word announces
-/// nothing. The worker holds what it held: what the cache keeps is counted by itself. A worker that is alone finds the entry in the cell of its operands
-/// then. At the limit of references, from 2^32 - 3 names held on, it may be that nothing is stored.
+/// most 2^39 names are held. No scan is under way, and the worker's first announcement word
+/// announces nothing. The worker holds what it held: what the cache keeps is counted by itself. A
+/// worker that is alone finds the entry in the cell of its operands then. At the limit of
+/// references, from 2^32 - 3 names held on, it may be that nothing is stored.
 pub fn store(worker: &mut Worker, op: Op, f: &Ref, g: &Ref, r: &Ref)
     requires may { MayLook worker.old.known.core 0 0 }
     requires first { IsHeld worker.old.known.core f.now.number }
@@ -125,7 +126,8 @@ pub fn store(worker: &mut Worker, op: Op, f: &Ref, g: &Ref, r: &Ref)
 /// Empties all cells, one after the other.
 ///
 /// No scan is under way, the worker's first announcement word announces nothing, and at most 2^39
-/// names are held. The worker holds what it held. One that is alone finds each cell empty then, and the boxes as they were.
+/// names are held. The worker holds what it held. One that is alone finds each cell empty then, and
+/// the boxes as they were.
 pub fn clear(worker: &mut Worker)
     requires may { MayLook worker.old.known.core 0 0 }
     requires room { length worker.old.known.core.held ≤ 2 ^ 39 }

@@ -1,4 +1,5 @@
-//! Up to where the netlists of a pair are known to be equal, below the outputs that a run left undecided.
+//! Up to where the netlists of a pair are known to be equal, below the outputs that a run left
+//! undecided.
 ghost use Rattle.std.specs.Prelude.{◌≡◌, length, IfOk};
 
 use crate::diagnostics::{Bordered, Compared, Diagnostics};
@@ -18,7 +19,8 @@ fn is_of(word: &Word, name: &[u8]) -> bool {
     }
 }
 
-/// Whether an output is told to be left, by its name or its word. With an output of a word all of it are taken.
+/// Whether an output is told to be left, by its name or its word. With an output of a word all of
+/// it are taken.
 fn is_left(left: &Left, name: &[u8]) -> bool {
     let is_named = left.names.iter().any(|other| other.as_slice() == name);
     is_named || left.words.iter().any(|word| is_of(word, name))
@@ -36,7 +38,8 @@ fn marked_left(alloc: Global, pair: &Pair<'_>, left: &Left) -> Result<Vec<bool>,
     Ok(marks)
 }
 
-/// Tells up to where the netlists of a pair are known to be equal, with at most so many conflicts. Fails where memory is refused.
+/// Tells up to where the netlists of a pair are known to be equal, with at most so many conflicts.
+/// Fails where memory is refused.
 pub(crate) fn tell_border<T: Diagnostics>(
     alloc: Global,
     compared: &Compared<'_>,

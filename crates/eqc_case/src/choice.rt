@@ -59,7 +59,8 @@ impl<'a> OutputNames<'a> {
     }
 }
 
-/// The number of the model of a name, else of the one at a place; where there is no such model, no number of one.
+/// The number of the model of a name, else of the one at a place; where there is no such model, no
+/// number of one.
 fn chosen_number(
     alloc: Global,
     library: &Library,
@@ -78,8 +79,8 @@ fn chosen_number(
     }
 }
 
-/// The number of the model that is chosen by a name or, without one, by its place, which counts from 0. The code is 13 where there is no
-/// such model, and 72 where memory is refused.
+/// The number of the model that is chosen by a name or, without one, by its place, which counts
+/// from 0. The code is 13 where there is no such model, and 72 where memory is refused.
 pub fn choose(
     alloc: Global,
     library: &Library,
@@ -105,8 +106,9 @@ pub struct Main {
     pub model: usize,
 }
 
-/// Reads a text of at most `limit` bytes, fewer than 2^31, and chooses its main model, as `choose` does. It fails with the line and the
-/// code by which the text is refused, or with the code of `choose`.
+/// Reads a text of at most `limit` bytes, fewer than 2^31, and chooses its main model, as `choose`
+/// does. It fails with the line and the code by which the text is refused, or with the code of
+/// `choose`.
 pub fn read_main(
     alloc: Global,
     text: &[u8],

@@ -24,7 +24,8 @@ pub struct Compared<'a> {
     pub second: Netlist<'a>,
 }
 
-/// The places at which an output of a pair begins to differ, and the other outputs that may begin to differ at one of them.
+/// The places at which an output of a pair begins to differ, and the other outputs that may begin
+/// to differ at one of them.
 #[derive(Clone, Copy)]
 pub struct Located<'a> {
     pub compared: Compared<'a>,
@@ -46,18 +47,22 @@ pub struct Bordered<'a> {
     pub border: &'a Border,
 }
 
-/// Is told why a run gave no verdict, once and after its report was written, if it has one; and where differences begin.
+/// Is told why a run gave no verdict, once and after its report was written, if it has one; and
+/// where differences begin.
 pub trait Diagnostics {
-    /// The text of this side was refused, at a line that counts from 1, or at none (0). There is no finding for a latch.
+    /// The text of this side was refused, at a line that counts from 1, or at none (0). There is no
+    /// finding for a latch.
     fn text(&mut self, side: Side, line: u32, finding: Option<&eqc_blif::Finding>);
 
-    /// The text of this side has these models, and none of the name, or at the place, that is wanted.
+    /// The text of this side has these models, and none of the name, or at the place, that is
+    /// wanted.
     fn models(&mut self, side: Side, library: &Library);
 
     /// The hierarchy of this side was refused.
     fn hierarchy(&mut self, side: Side, library: &Library, finding: &eqc_flat::Finding<'_>);
 
-    /// The two netlists make no pair, or the names of outputs, the order text or the assumption are refused for them.
+    /// The two netlists make no pair, or the names of outputs, the order text or the assumption are
+    /// refused for them.
     fn pair(&mut self, finding: &Finding<'_>);
 
     /// No assignment of the inputs meets the assumption.
@@ -69,7 +74,8 @@ pub trait Diagnostics {
     /// The run was stopped.
     fn stopped(&mut self, stop: Stop);
 
-    /// The outputs that a run which was stopped left undecided; none where it came to no comparison.
+    /// The outputs that a run which was stopped left undecided; none where it came to no
+    /// comparison.
     fn undecided(&mut self, left: &Undecided);
 
     /// The text of this side could not be read.
@@ -81,21 +87,25 @@ pub trait Diagnostics {
     /// Whether it is to be told where differences begin.
     fn wants_places(&self) -> bool;
 
-    /// Where some of the differences begin that the report tells: first those that most outputs share. What is told of a place is so under
-    /// the values under which the output differs, and each partner is proved to be one.
+    /// Where some of the differences begin that the report tells: first those that most outputs
+    /// share. What is told of a place is so under the values under which the output differs, and
+    /// each partner is proved to be one.
     fn places(&mut self, located: &Located<'_>)
         requires { IsLocated located.now };
 
     /// For so many of the differences no place was looked for.
     fn unplaced(&mut self, count: usize);
 
-    /// Memory was refused, and not all differences were told of, or not up to where equality is known.
+    /// Memory was refused, and not all differences were told of, or not up to where equality is
+    /// known.
     fn unlocated(&mut self);
 
-    /// Whether it is to be told up to where equality is known, where a run was stopped that left outputs undecided.
+    /// Whether it is to be told up to where equality is known, where a run was stopped that left
+    /// outputs undecided.
     fn wants_border(&self) -> bool;
 
-    /// Up to where the netlists are known to be equal. Each signal and its partner are proved to be equal, or opposite.
+    /// Up to where the netlists are known to be equal. Each signal and its partner are proved to be
+    /// equal, or opposite.
     fn border(&mut self, bordered: &Bordered<'_>)
         requires { IsBordered bordered.now };
 }

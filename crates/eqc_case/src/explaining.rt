@@ -1,4 +1,5 @@
-//! What is at fault in texts that are refused: the checks are made once more, in their order, up to the first that fails.
+//! What is at fault in texts that are refused: the checks are made once more, in their order, up to
+//! the first that fails.
 ghost use Rattle.std.specs.Prelude.{◌<◌, ◌^◌, length, IfOk, IfSome};
 
 use crate::choice::{Main, choose, read_main};
@@ -10,7 +11,8 @@ use eqc_pair::{Side, explain_assumption, explain_pair};
 use eqc_report::Options;
 use std::alloc::{AllocError, Global};
 
-/// Tells of a text that may have so many bytes, and is refused or has no such model. Fails where memory is refused.
+/// Tells of a text that may have so many bytes, and is refused or has no such model. Fails where
+/// memory is refused.
 fn tell_text<T: Diagnostics>(
     alloc: Global,
     side: Side,
@@ -30,7 +32,8 @@ fn tell_text<T: Diagnostics>(
     Ok(())
 }
 
-/// The main model of a text that may have so many bytes, or none where the text was told of. Fails where memory is refused.
+/// The main model of a text that may have so many bytes, or none where the text was told of. Fails
+/// where memory is refused.
 fn main_or_told<T: Diagnostics>(
     alloc: Global,
     side: Side,
@@ -54,8 +57,8 @@ fn main_or_told<T: Diagnostics>(
     }
 }
 
-/// Tells of the hierarchy below a model, if it is refused with this limit of inputs, and answers whether it did. Fails where
-/// memory is refused.
+/// Tells of the hierarchy below a model, if it is refused with this limit of inputs, and answers
+/// whether it did. Fails where memory is refused.
 fn tell_hierarchy<T: Diagnostics>(
     alloc: Global,
     side: Side,
@@ -133,7 +136,8 @@ fn tell_flats<T: Diagnostics>(
     }
 }
 
-/// Tells of a flat netlist that is refused as an assumption for the first netlist's inputs. Fails where memory is refused.
+/// Tells of a flat netlist that is refused as an assumption for the first netlist's inputs. Fails
+/// where memory is refused.
 fn tell_assumed<T: Diagnostics>(
     alloc: Global,
     first: &Flat<'_>,
@@ -166,8 +170,8 @@ fn tell_assuming<T: Diagnostics>(
     }
 }
 
-/// Tells of an assumption that is refused for the first netlist's inputs, or with these limits of bytes and inputs. Fails where
-/// memory is refused.
+/// Tells of an assumption that is refused for the first netlist's inputs, or with these limits of
+/// bytes and inputs. Fails where memory is refused.
 fn tell_assumption<T: Diagnostics>(
     alloc: Global,
     first: &Flat<'_>,
@@ -182,7 +186,8 @@ fn tell_assumption<T: Diagnostics>(
     tell_assuming(alloc, first, &main, options.input_limit(), told)
 }
 
-/// Tells of what stands behind the first text's model, where there is one text. Fails where memory is refused.
+/// Tells of what stands behind the first text's model, where there is one text. Fails where memory
+/// is refused.
 fn tell_of_one<T: Diagnostics>(
     alloc: Global,
     first: &Main,
@@ -204,7 +209,8 @@ fn tell_of_one<T: Diagnostics>(
     }
 }
 
-/// Tells of what stands behind the first text's model, where there are two texts. Fails where memory is refused.
+/// Tells of what stands behind the first text's model, where there are two texts. Fails where
+/// memory is refused.
 fn tell_of_two<T: Diagnostics>(
     alloc: Global,
     first: &Main,

@@ -10,8 +10,8 @@ use eqc_report::{Options, StreamFault};
 use std::alloc::Global;
 use std::io::Read;
 
-/// The texts of a run: one, of which the first two models are compared, or two, of which the main (first) models
-/// are.
+/// The texts of a run: one, of which the first two models are compared, or two, of which the main
+/// (first) models are.
 #[derive(Drop)]
 pub enum Texts<R> {
     One(R),
@@ -138,9 +138,10 @@ fn read_within<'a, R: Read + Drop>(
     })
 }
 
-/// Reads the first text whole, then the second, then the order text, then the assumption's. Of each at most one byte more is read
-/// than it may have: a netlist as many as the options allow, an order text 16,777,216. It fails with the first text that was not
-/// read, which is one of those that are given, and why: memory was refused, or its reader failed.
+/// Reads the first text whole, then the second, then the order text, then the assumption's. Of each
+/// at most one byte more is read than it may have: a netlist as many as the options allow, an order
+/// text 16,777,216. It fails with the first text that was not read, which is one of those that are
+/// given, and why: memory was refused, or its reader failed.
 pub fn read_given<'a, R: Read + Drop>(
     alloc: Global,
     given: Given<'a, R>,

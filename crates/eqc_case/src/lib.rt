@@ -1,14 +1,16 @@
-//! The case of a run: what it is given and reads, which models are compared, what the answer has to be, and what is told beside the
-//! report. Nothing here compares anything: which report it is, by the checks in their order, is decided in `eqc_check`.
+//! The case of a run: what it is given and reads, which models are compared, what the answer has to
+//! be, and what is told beside the report. Nothing here compares anything: which report it is, by
+//! the checks in their order, is decided in `eqc_check`.
 //!
-//! What the answer has to be is said in `specs/Answer.antt`, over `specs/Report.antt` of `eqc_report`. Read the modules in this order,
-//! the way of the data:
+//! What the answer has to be is said in `specs/Answer.antt`, over `specs/Report.antt` of
+//! `eqc_report`. Read the modules in this order, the way of the data:
 //!
-//! - `given`, what a run is given and what is read of it, over `reading`; `choice`, which models are compared
+//! - `given`, what a run is given and what is read of it, over `reading`; `choice`, which models
+//!   are compared
 //! - `told`, a report with its warnings; `warning`, models that are contained in others
 //! - `explaining`, what is at fault in texts that are refused, told to `diagnostics`
-//! - `remaking`, a pair that is made once more, to tell of it too: `locating`, where differences begin, and `bordering`, up to where equality is
-//!   known
+//! - `remaking`, a pair that is made once more, to tell of it too: `locating`, where differences
+//!   begin, and `bordering`, up to where equality is known
 //! - `laws`, facts about the definitions, as functions without a body
 #![tactic(auto)]
 

@@ -20,8 +20,8 @@ pub(crate) struct Differing<'x> {
     pub conflicts: u64,
 }
 
-/// Differences that may begin at one place: the first of them, its assignment and its places, the place that most of the others share, and
-/// these.
+/// Differences that may begin at one place: the first of them, its assignment and its places, the
+/// place that most of the others share, and these.
 #[derive(Drop)]
 pub(crate) struct Group<'x> {
     output: &'x [u8],
@@ -45,8 +45,8 @@ fn position_from(pair: &Pair<'_>, from: usize, name: &[u8]) -> Option<usize>
     None
 }
 
-/// For each output that differs its position, none of an output where it isn't found; a report has them in their order. Fails where
-/// memory is refused.
+/// For each output that differs its position, none of an output where it isn't found; a report has
+/// them in their order. Fails where memory is refused.
 fn positions_of(
     alloc: Global,
     pair: &Pair<'_>,
@@ -100,7 +100,8 @@ fn longest(lists: &[Vec<usize>]) -> usize {
     found
 }
 
-/// The group with the most outputs among those that aren't told yet, the first of them, by its position; how many there are where all are.
+/// The group with the most outputs among those that aren't told yet, the first of them, by its
+/// position; how many there are where all are.
 fn largest(groups: &[Group<'_>], is_told: &[bool]) -> usize {
     let mut found = groups.len();
     let mut most = 0usize;
@@ -149,7 +150,8 @@ fn tell_group<'g, T: Diagnostics>(
 }
 
 impl<'x> Differing<'x> {
-    /// Adds to the list of each place those of a batch that it mends. Fails where memory is refused.
+    /// Adds to the list of each place those of a batch that it mends. Fails where memory is
+    /// refused.
     fn list_mended(
         &self,
         locator: &Locator<'_>,
@@ -168,7 +170,8 @@ impl<'x> Differing<'x> {
         Ok(())
     }
 
-    /// For each place the differences among those that are left which it mends. Fails where memory is refused.
+    /// For each place the differences among those that are left which it mends. Fails where memory
+    /// is refused.
     fn lists_of(
         &self,
         locator: &Locator<'_>,
@@ -195,8 +198,8 @@ impl<'x> Differing<'x> {
         Ok(lists)
     }
 
-    /// The next differences that are left, from one on, as many as are simulated together, and where the next ones begin. Fails where
-    /// memory is refused.
+    /// The next differences that are left, from one on, as many as are simulated together, and
+    /// where the next ones begin. Fails where memory is refused.
     fn batch(
         &self,
         locator: &Locator<'_>,
@@ -263,7 +266,8 @@ impl<'x> Differing<'x> {
         }))
     }
 
-    /// Puts the group of a difference behind others, if it is left and has one, and they aren't too many. Fails where memory is refused.
+    /// Puts the group of a difference behind others, if it is left and has one, and they aren't too
+    /// many. Fails where memory is refused.
     fn put_group(
         &self,
         locator: &Locator<'_>,
@@ -291,7 +295,8 @@ impl<'x> Differing<'x> {
         }
     }
 
-    /// The groups of all differences, as many as are looked for; those that are in none stay marked. Fails where memory is refused.
+    /// The groups of all differences, as many as are looked for; those that are in none stay
+    /// marked. Fails where memory is refused.
     fn groups(
         &self,
         locator: &Locator<'_>,
@@ -329,8 +334,8 @@ impl<'x> Differing<'x> {
         Ok(())
     }
 
-    /// Tells of the places of all differences, those first that most outputs share. Fails where memory is refused, and then some aren't
-    /// told of.
+    /// Tells of the places of all differences, those first that most outputs share. Fails where
+    /// memory is refused, and then some aren't told of.
     pub(crate) fn tell<T: Diagnostics>(&self, told: &mut T) -> Result<(), AllocError> {
         let pair = self.compared.pair;
         let positions = positions_of(self.alloc, pair, self.differences)?;

@@ -49,7 +49,8 @@ impl<R: Read> Counted<R> {
     }
 }
 
-/// Reads a block onto the text, but no more than `most` bytes in all, and says whether more may follow.
+/// Reads a block onto the text, but no more than `most` bytes in all, and says whether more may
+/// follow.
 fn read_more<R: Read>(
     reader: &mut Counted<R>,
     stage: &mut Stage,
@@ -86,16 +87,18 @@ fn read_more<R: Read>(
     }
 }
 
-/// A block of zeros. It is made apart for the proof's sake: whatever meets its 65,536 bytes there writes them out.
+/// A block of zeros. It is made apart for the proof's sake: whatever meets its 65,536 bytes there
+/// writes them out.
 fn new_block(alloc: Global) -> Result<Vec<u8>, AllocError>
     ensures { IfOk result (λ block. vec_len block ≡ BLOCK) }
 {
     vec![in alloc; 0; BLOCK]
 }
 
-/// Reads a text that may have `limit` bytes until its end, or one byte past them, in blocks, of a reader that wasn't asked before. It
-/// takes room as the text grows. A read that fails isn't tried again. The reader is asked at most once more than the text has bytes, and
-/// at most once more than it may have.
+/// Reads a text that may have `limit` bytes until its end, or one byte past them, in blocks, of a
+/// reader that wasn't asked before. It takes room as the text grows. A read that fails isn't tried
+/// again. The reader is asked at most once more than the text has bytes, and at most once more than
+/// it may have.
 pub(crate) fn read_text<R: Read>(
     alloc: Global,
     reader: &mut Counted<R>,

@@ -1,5 +1,5 @@
-//! What is told of the pair of a case, which is made once more: where its differences begin, or up to where its netlists are known to be
-//! equal.
+//! What is told of the pair of a case, which is made once more: where its differences begin, or up
+//! to where its netlists are known to be equal.
 ghost use Rattle.std.specs.Prelude.{◌<◌, length};
 
 use crate::bordering::tell_border;
@@ -207,8 +207,8 @@ fn tell_case<'x, T: Diagnostics>(
     }
 }
 
-/// Tells of the places at which the differences of a case begin, whose report they are. Fails where memory is refused, and then some
-/// aren't told.
+/// Tells of the places at which the differences of a case begin, whose report they are. Fails where
+/// memory is refused, and then some aren't told.
 pub fn locate_in_case<'x, T: Diagnostics>(
     alloc: Global,
     case: &'x Case<'x>,
@@ -218,8 +218,9 @@ pub fn locate_in_case<'x, T: Diagnostics>(
     tell_case(alloc, case, Subject::Differences(differences), told)
 }
 
-/// Tells up to where the netlists of a case are known to be equal, below the outputs that a run of it left undecided, as far as they are
-/// told by words and names. Fails where memory is refused, and then nothing is told.
+/// Tells up to where the netlists of a case are known to be equal, below the outputs that a run of
+/// it left undecided, as far as they are told by words and names. Fails where memory is refused,
+/// and then nothing is told.
 pub fn border_in_case<'x, T: Diagnostics>(
     alloc: Global,
     case: &'x Case<'x>,

@@ -1,5 +1,6 @@
-//! Which report a case gets: the refusal by the first check that fails, or the comparison of two models. It is one course, in which
-//! each stage calls the next one and lends it what it made, since a proof of all of them at once takes many times longer:
+//! Which report a case gets: the refusal by the first check that fails, or the comparison of two
+//! models. It is one course, in which each stage calls the next one and lends it what it made,
+//! since a proof of all of them at once takes many times longer:
 //!
 //! | | Stage | Its checks | In |
 //! |---|---|---|---|
@@ -48,9 +49,10 @@ struct Decision<'x, R, P> {
     watch: &'x P,
 }
 
-/// The report on what was read, with the warnings where it is a comparison, or the stop in its place. Where a comparison is given
-/// up, the outputs of its pair that are left are taken; before any comparison a stop is for want of memory, and nothing is. The
-/// watch is told how far the comparison is.
+/// The report on what was read, with the warnings where it is a comparison, or the stop in its
+/// place. Where a comparison is given up, the outputs of its pair that are left are taken; before
+/// any comparison a stop is for want of memory, and nothing is. The watch is told how far the
+/// comparison is.
 pub(crate) fn decide<R: Threads + Wait + Sync, P: Progress<R> + Sync>(
     rt: &R,
     alloc: Global,
@@ -175,8 +177,9 @@ impl<'x, R: Threads + Wait + Sync, P: Progress<R> + Sync> Decision<'x, R, P> {
         }
     }
 
-    /// The report behind the flattening of the second model, whatever model the first flat netlist is of. It stands apart for its
-    /// proof's sake: with two flat netlists in one function, each with an exit where there is none, that takes many times longer.
+    /// The report behind the flattening of the second model, whatever model the first flat netlist
+    /// is of. It stands apart for its proof's sake: with two flat netlists in one function, each
+    /// with an exit where there is none, that takes many times longer.
     fn flatten_second(
         &self,
         first: &Flat<'_>,
@@ -287,7 +290,8 @@ impl<'x, R: Threads + Wait + Sync, P: Progress<R> + Sync> Decision<'x, R, P> {
         }
     }
 
-    /// The models of a text of as many bytes as the options allow, and the number of the one of a name or, without one, of the first.
+    /// The models of a text of as many bytes as the options allow, and the number of the one of a
+    /// name or, without one, of the first.
     fn read(&self, text: &[u8], name: Option<&[u8]>) -> Result<Main, Refusal>
         requires { options_code self.now.case.now.options ≡ None }
         ensures read { IfOk result (λ main. outcome self.now.case.now.options.bytes text.now ≡ Ok main.library) }
@@ -307,7 +311,8 @@ impl<'x, R: Threads + Wait + Sync, P: Progress<R> + Sync> Decision<'x, R, P> {
         self.case.options.input_limit()
     }
 
-    /// The report on a pair, behind all checks. Where the comparison is given up, the outputs of the pair that are left are taken.
+    /// The report on a pair, behind all checks. Where the comparison is given up, the outputs of
+    /// the pair that are left are taken.
     fn compare(&self, pair: &Pair<'_>, left: &mut Undecided) -> Result<Report, Stop>
         requires { options_code self.now.case.now.options ≡ None }
         ensures report { IfOk result (λ report. report_of report ≡ pair_report self.now.case.now.options.every pair.now) }

@@ -1,12 +1,13 @@
-//! Reports on two netlists: from their texts to the bytes of a report. What makes a pair stands in `eqc_pair`, how its first
-//! differing output is found in `eqc_compare`, what is tried on it in `eqc_engine`, and what the report on it is in `eqc_report`;
-//! their calls are offered here too.
+//! Reports on two netlists: from their texts to the bytes of a report. What makes a pair stands in
+//! `eqc_pair`, how its first differing output is found in `eqc_compare`, what is tried on it in
+//! `eqc_engine`, and what the report on it is in `eqc_report`; their calls are offered here too.
 //!
-//! What the report has to be is said in `specs/Answer.antt` of `eqc_case`, over `specs/Report.antt` of `eqc_report`. Read the modules
-//! in this order, the way of the data:
+//! What the report has to be is said in `specs/Answer.antt` of `eqc_case`, over `specs/Report.antt`
+//! of `eqc_report`. Read the modules in this order, the way of the data:
 //!
-//! - `running`, texts in and a report out; `decide`, which refusal or comparison it is. What a run is given and reads, which models are
-//!   compared, and what is told beside the report stands in `eqc_case`
+//! - `running`, texts in and a report out; `decide`, which refusal or comparison it is. What a run
+//!   is given and reads, which models are compared, and what is told beside the report stands in
+//!   `eqc_case`
 #![tactic(auto, using(eqc_tree::proofs::HoldingLemmas::counts_itself))]
 
 mod decide;

@@ -1,4 +1,5 @@
-//! Runs: texts are read, a report is decided on and written, and why it is a refusal is told where that is wanted.
+//! Runs: texts are read, a report is decided on and written, and why it is a refusal is told where
+//! that is wanted.
 ghost use Rattle.std.specs.Prelude.{◌≡◌, ◌≢◌, IfOk, IfErr, OnErr, Ok, Err, None};
 ghost use Rattle.eqc_report.specs.ReportView.{report_of};
 ghost use Rattle.eqc_report.specs.Options.{options_code};
@@ -57,9 +58,9 @@ impl<'a> Reported<'a> {
     }
 }
 
-/// The report of a run with its warnings: a refusal of its options before any text is read, else that on its texts. What was read
-/// is kept with it, and where it is a stop, the outputs of the pair of that which are left. A read that fails is that of a text that
-/// is given.
+/// The report of a run with its warnings: a refusal of its options before any text is read, else
+/// that on its texts. What was read is kept with it, and where it is a stop, the outputs of the
+/// pair of that which are left. A read that fails is that of a text that is given.
 fn report_for<'a, RT: Threads + Wait + Sync, R: Read + Drop, P: Progress<RT> + Sync>(
     rt: &RT,
     alloc: Global,
@@ -124,7 +125,8 @@ fn tell_places<T: Diagnostics>(
     }
 }
 
-/// Tells up to where equality is known below the outputs that are left, if that is wanted and there are any.
+/// Tells up to where equality is known below the outputs that are left, if that is wanted and there
+/// are any.
 fn tell_border<T: Diagnostics>(alloc: Global, reported: &Reported<'_>, told: &mut T) {
     let left = reported.left.left();
     if left.count == 0 || !told.wants_border() {
@@ -137,7 +139,8 @@ fn tell_border<T: Diagnostics>(alloc: Global, reported: &Reported<'_>, told: &mu
     }
 }
 
-/// Tells why a report is a refusal or a stop, or where its differences begin. Where memory is refused for it, nothing is told.
+/// Tells why a report is a refusal or a stop, or where its differences begin. Where memory is
+/// refused for it, nothing is told.
 fn tell<T: Diagnostics>(alloc: Global, reported: &Reported<'_>, told: &mut T) {
     match &reported.told.report {
         Report::Equivalent => {}
@@ -157,7 +160,8 @@ fn tell<T: Diagnostics>(alloc: Global, reported: &Reported<'_>, told: &mut T) {
     }
 }
 
-/// Writes what a run reports, and then tells why it is a refusal or a stop, or could not be written, if that is wanted.
+/// Writes what a run reports, and then tells why it is a refusal or a stop, or could not be
+/// written, if that is wanted.
 fn finish<W: Write, T: Diagnostics>(
     alloc: Global,
     reported: Reported<'_>,
@@ -186,11 +190,11 @@ fn finish<W: Write, T: Diagnostics>(
     }
 }
 
-/// Compares two netlists and writes the report, as `run_models` does. Why it is a refusal or a stop, or could not be made
-/// or written, is told afterwards, if that is wanted.
+/// Compares two netlists and writes the report, as `run_models` does. Why it is a refusal or a
+/// stop, or could not be made or written, is told afterwards, if that is wanted.
 ///
-/// The watch is told how far the run is: of each stage as it begins, of `Writing` before anything is written or told, and of
-/// each comparison by diagrams before that begins.
+/// The watch is told how far the run is: of each stage as it begins, of `Writing` before anything
+/// is written or told, and of each comparison by diagrams before that begins.
 pub fn run_explained<
     RT: Threads + Wait + Sync,
     R: Read + Drop,
@@ -224,15 +228,17 @@ pub fn run_explained<
     }
 }
 
-/// Compares two netlists and writes the report, as `run` does, and chooses the models and the outputs by their names where
-/// these are given. Outputs that are not chosen are not compared, and nothing is built for them.
+/// Compares two netlists and writes the report, as `run` does, and chooses the models and the
+/// outputs by their names where these are given. Outputs that are not chosen are not compared, and
+/// nothing is built for them.
 ///
-/// Each name is looked up in the models of its text, both in those of a single text. Where there is no model of a
-/// name, the report is the refusal of that side with code 13. Without a name the place decides: of one text the first
-/// model and the second, whatever the other side's name is, and of two texts the first of each.
+/// Each name is looked up in the models of its text, both in those of a single text. Where there is
+/// no model of a name, the report is the refusal of that side with code 13. Without a name the
+/// place decides: of one text the first model and the second, whatever the other side's name is,
+/// and of two texts the first of each.
 ///
-/// Where the report is a verdict, `equivalent` or that an output differs, the answer has a warning for each compared
-/// model that a model of its text contains which isn't compared.
+/// Where the report is a verdict, `equivalent` or that an output differs, the answer has a warning
+/// for each compared model that a model of its text contains which isn't compared.
 pub fn run_models<RT: Threads + Wait + Sync, R: Read + Drop, W: Write>(
     rt: &RT,
     alloc: Global,
@@ -248,20 +254,25 @@ pub fn run_models<RT: Threads + Wait + Sync, R: Read + Drop, W: Write>(
     run_explained::<RT, R, W, NoDiagnostics, NoGate>(rt, alloc, given, out, None, &NoGate)
 }
 
-/// Compares two netlists and writes the report: the first two models of one text, or the main models of two, over
-/// the variable order of an order text or, without one, the order in which the first netlist declares its inputs. Where there is
-/// an assumption, the first model of its text, only assignments count under which its one output is 1.
+/// Compares two netlists and writes the report: the first two models of one text, or the main
+/// models of two, over the variable order of an order text or, without one, the order in which the
+/// first netlist declares its inputs. Where there is an assumption, the first model of its text,
+/// only assignments count under which its one output is 1.
 ///
-/// The options are looked at first, and where one is out of its range no text is read. Else the texts are read whole:
-/// the first, the second, the order text, the assumption's. A read that fails is `Read`, 91, and then nothing is written. Want of memory
-/// anywhere before the writing is reported as `stopped 72`. A write that fails or takes nothing, or a flush that fails, is
-/// `Write`, 92, and then a part of a report was written. Nothing is tried again. The answer is the kind of the report.
+/// The options are looked at first, and where one is out of its range no text is read. Else the
+/// texts are read whole: the first, the second, the order text, the assumption's. A read that fails
+/// is `Read`, 91, and then nothing is written. Want of memory anywhere before the writing is
+/// reported as `stopped 72`. A write that fails or takes nothing, or a flush that fails, is
+/// `Write`, 92, and then a part of a report was written. Nothing is tried again. The answer is the
+/// kind of the report.
 ///
-/// It begins on one thread, as many pairs end there. Threads are started where the options have several workers and outputs are left: with
-/// fewer than 1,024 nodes at once, and else where the store of one thread is full or its operations took too many turns. Then as
-/// many compare as the options have workers, without forks no more than there are outputs to compare; searches for differences have
-/// as many too, and so have the questions of sweeping, a few for each. The call may wait, for them. The report is the same for every number of workers, and where they were stopped its
-/// code is from 71 to 74.
+/// It begins on one thread, as many pairs end there. Threads are started where the options have
+/// several workers and outputs are left: with fewer than 1,024 nodes at once, and else where the
+/// store of one thread is full or its operations took too many turns. Then as many compare as the
+/// options have workers, without forks no more than there are outputs to compare; searches for
+/// differences have as many too, and so have the questions of sweeping, a few for each. The call
+/// may wait, for them. The report is the same for every number of workers, and where they were
+/// stopped its code is from 71 to 74.
 pub fn run<RT: Threads + Wait + Sync, R: Read + Drop, W: Write>(
     rt: &RT,
     alloc: Global,

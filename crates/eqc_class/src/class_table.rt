@@ -1,4 +1,5 @@
-//! The classes that were found so far: the class of a shape is looked up, and a new one where there is none.
+//! The classes that were found so far: the class of a shape is looked up, and a new one where there
+//! is none.
 ghost use Rattle.std.specs.Prelude.{◌≡◌, ℕ, ◌<◌, false, [], IfOk, OnOk, length};
 ghost use Rattle.eqc_class.specs.Structure.{constant};
 ghost use Rattle.eqc_class.specs.Shapes.{grown, IsShapeWithin};
@@ -11,12 +12,13 @@ use indexmap::IndexSet;
 use std::alloc::{AllocError, Global};
 use std::marker::Model;
 
-/// No more columns of shapes are stored than about so many. Two texts of the greatest length have no more, so only
-/// hierarchies meet it: there a cover stands in each instance of its model, over other signals each time.
+/// No more columns of shapes are stored than about so many. Two texts of the greatest length have
+/// no more, so only hierarchies meet it: there a cover stands in each instance of its model, over
+/// other signals each time.
 const MOST_COLUMNS: usize = 16_777_216;
 
-/// Classes, each told by a shape over classes before it. Contracts see the rows that shapes name by their numbers, and the
-/// shapes; the structures of all classes differ.
+/// Classes, each told by a shape over classes before it. Contracts see the rows that shapes name by
+/// their numbers, and the shapes; the structures of all classes differ.
 #[derive(Drop)]
 pub(crate) struct ClassTable<'r, 'a> {
     rows: &'r RowSet<'a>,
@@ -43,7 +45,8 @@ fn added(fresh: bool, width: usize) -> usize {
 }
 
 impl<'r, 'a> ClassTable<'r, 'a> {
-    /// No classes, over these rows, with room for so many, which are looked up by the key. Fails where memory is refused.
+    /// No classes, over these rows, with room for so many, which are looked up by the key. Fails
+    /// where memory is refused.
     pub(crate) fn new(
         alloc: Global,
         key: Key,
@@ -61,8 +64,9 @@ impl<'r, 'a> ClassTable<'r, 'a> {
         })
     }
 
-    /// The class of a shape over rows and classes that are there: a new one, unless there is one. Fails where memory is
-    /// refused, where there are more classes than memory has room for, and where their shapes have too many columns.
+    /// The class of a shape over rows and classes that are there: a new one, unless there is one.
+    /// Fails where memory is refused, where there are more classes than memory has room for, and
+    /// where their shapes have too many columns.
     pub(crate) fn class(&mut self, shape: Shape) -> Result<u32, AllocError>
         requires within { IsShapeWithin (length self.old.0) (length (structures_in self.old)) shape }
         ensures rows { self.new.0 ≡ self.old.0 }

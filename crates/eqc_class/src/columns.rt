@@ -26,7 +26,8 @@ impl Model for Columns {
 }
 
 impl Columns {
-    /// The classes of these signals, by the number of each signal's class. Fails where memory is refused.
+    /// The classes of these signals, by the number of each signal's class. Fails where memory is
+    /// refused.
     pub(crate) fn of(
         alloc: Global,
         numbers: &[u32],

@@ -1,8 +1,9 @@
-//! Classes of the signals of two flat netlists: signals that are driven alike, down to the inputs, are one class. No
-//! function is looked into.
+//! Structural hashing of netlists: classes of the signals of two flat netlists. Signals that are
+//! driven alike, down to the inputs, are one class. No function is looked into.
 //!
-//! What the structure of a signal is stands in `specs/Structure.antt`, what classes are in `specs/Classes.antt`, and that
-//! signals of one class have equal values in `specs/Laws.antt`. Read the modules in this order:
+//! What the structure of a signal is stands in `specs/Structure.antt`, what classes are in
+//! `specs/Classes.antt`, and that signals of one class have equal values in `specs/Laws.antt`. Read
+//! the modules in this order:
 //!
 //! - `signal_classes`, the call and what it gives; `numbering`, the signals of one netlist
 //! - `class_table`, classes by their shapes; `shape`, what tells a class

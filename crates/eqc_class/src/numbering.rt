@@ -1,4 +1,5 @@
-//! The class of each signal of one netlist, by its driver and by the classes of the signals that this depends on.
+//! The class of each signal of one netlist, by its driver and by the classes of the signals that
+//! this depends on.
 ghost use Rattle.std.specs.Prelude.{◌≡◌, ℕ, ◌<◌, false, true, [], IfOk, OnOk, length, map, slice_index, slice_index_or, slice_get};
 ghost use Rattle.eqc_netlist.specs.Graph.{driver_at, dependencies};
 ghost use Rattle.eqc_class.specs.Structure.{constant, passes_on, repeats, cover_structure, driver_structure};
@@ -25,8 +26,8 @@ fn passes_on(rows: &Rows<'_>, columns: usize) -> bool
     columns == 1 && rows.len() == 1 && repeats(rows.get(0))
 }
 
-/// The class of a cover with these rows, which stand at place `r`, over signals whose classes have these numbers. Fails where
-/// memory is refused.
+/// The class of a cover with these rows, which stand at place `r`, over signals whose classes have
+/// these numbers. Fails where memory is refused.
 fn cover_class(
     alloc: Global,
     table: &mut ClassTable<'_, '_>,
@@ -52,7 +53,8 @@ fn cover_class(
     table.class(Shape::Gate { rows: r, columns })
 }
 
-/// The class of a signal, where the signals that it depends on have theirs. Fails where memory is refused.
+/// The class of a signal, where the signals that it depends on have theirs. Fails where memory is
+/// refused.
 fn signal_class(
     alloc: Global,
     table: &mut ClassTable<'_, '_>,
@@ -87,8 +89,8 @@ fn signal_class(
     }
 }
 
-/// The class of each signal of a netlist, whose inputs have these variables and whose rows these places among those of
-/// the table. Fails where memory is refused.
+/// The class of each signal of a netlist, whose inputs have these variables and whose rows these
+/// places among those of the table. Fails where memory is refused.
 pub(crate) fn numbers_of(
     alloc: Global,
     table: &mut ClassTable<'_, '_>,

@@ -63,8 +63,8 @@ impl<'a> RowSet<'a> {
         }
     }
 
-    /// Puts rows in, unless they are there, and answers where they stand. Fails where memory is refused, and where there
-    /// are more than memory has room for.
+    /// Puts rows in, unless they are there, and answers where they stand. Fails where memory is
+    /// refused, and where there are more than memory has room for.
     fn place(&mut self, rows: &'a Rows<'a>) -> Result<u32, AllocError>
         ensures kept { Grows [] self.old self.new 1 }
         ensures place { IfOk result (λ place. Stands [] self.new place rows.now) }
@@ -76,8 +76,8 @@ impl<'a> RowSet<'a> {
         Ok(place as u32)
     }
 
-    /// Puts all rows in that a driver of a netlist names, and answers where they stand, by their numbers. Fails where
-    /// memory is refused.
+    /// Puts all rows in that a driver of a netlist names, and answers where they stand, by their
+    /// numbers. Fails where memory is refused.
     pub(crate) fn places(
         &mut self,
         alloc: Global,

@@ -1,4 +1,5 @@
-//! The classes of the signals of two netlists, which are numbered one after the other over one table.
+//! The classes of the signals of two netlists, which are numbered one after the other over one
+//! table.
 ghost use Rattle.std.specs.Prelude.{◌≡◌, IfOk, length};
 ghost use Rattle.eqc_netlist.specs.Graph.{IsFlat, FollowsDrivers};
 ghost use Rattle.eqc_class.specs.Classes.{AreClasses, HaveOneValueEach};
@@ -50,8 +51,8 @@ impl SignalClasses {
     }
 }
 
-/// What holds of every flat netlist, for a proof of its caller: it does nothing. A netlist's laws are known only
-/// where a call states them.
+/// What holds of every flat netlist, for a proof of its caller: it does nothing. A netlist's laws
+/// are known only where a call states them.
 fn recall_laws(flat: &Flat<'_>)
     ensures lawful { IsFlat flat.now }
     ensures follows { FollowsDrivers flat.now }
@@ -64,7 +65,8 @@ fn key_of(first: &Flat<'_>, second: &Flat<'_>) -> Key {
     first.key().with(second.key())
 }
 
-/// The classes of the signals of two netlists whose rows have these places among others. Fails where memory is refused.
+/// The classes of the signals of two netlists whose rows have these places among others. Fails
+/// where memory is refused.
 #[allow(clippy::too_many_arguments)]
 fn classes_over(
     alloc: Global,
@@ -93,12 +95,13 @@ fn classes_over(
     })
 }
 
-/// The classes of the signals of two netlists: signals that are driven alike, down to the inputs, are one class, also
-/// signals of both. `variables` has the variable of each input of the first netlist, `others` of the second, in their
-/// orders; inputs with one variable are one class. Time is expected to be in proportion to the netlists' drivers and their
-/// rows, memory to their signals and rows and to the columns of covers that are of no earlier class. Fails where memory is
-/// refused, and where these columns are more than 16,777,216, which happens in hierarchies alone: then nothing is known of the
-/// signals, and each may be taken for a class of its own.
+/// The classes of the signals of two netlists: signals that are driven alike, down to the inputs,
+/// are one class, also signals of both. `variables` has the variable of each input of the first
+/// netlist, `others` of the second, in their orders; inputs with one variable are one class. Time
+/// is expected to be in proportion to the netlists' drivers and their rows, memory to their signals
+/// and rows and to the columns of covers that are of no earlier class. Fails where memory is
+/// refused, and where these columns are more than 16,777,216, which happens in hierarchies alone:
+/// then nothing is known of the signals, and each may be taken for a class of its own.
 pub fn classes<'a>(
     alloc: Global,
     first: &'a Flat<'a>,

@@ -9,8 +9,8 @@ use crate::{Clauses, Hint, Marks};
 use eqc_graph::{Graph, negated, node_of};
 use std::alloc::AllocError;
 
-/// Whether the hints, each unit or false in its turn, show that one of the literals is true that are taken to be false.
-/// Leaves what it took to be false besides.
+/// Whether the hints, each unit or false in its turn, show that one of the literals is true that
+/// are taken to be false. Leaves what it took to be false besides.
 fn ends_in_conflict(
     graph: &Graph,
     clauses: &Clauses,
@@ -94,10 +94,11 @@ fn shows(
 }
 
 impl Clauses {
-    /// Takes in a clause that the hints show: with its literals false, each names a clause that is unit, or one that is
-    /// false, which ends it. Gives the clause's number, or `None` where they don't show it. A clause of no literals, or
-    /// of one that the graph doesn't have, is never taken in. Hints may name any numbers. Fails where memory is refused,
-    /// or where 2^32 - 1 clauses are in use, and then the store is as before.
+    /// Takes in a clause that the hints show: with its literals false, each names a clause that is
+    /// unit, or one that is false, which ends it. Gives the clause's number, or `None` where they
+    /// don't show it. A clause of no literals, or of one that the graph doesn't have, is never
+    /// taken in. Hints may name any numbers. Fails where memory is refused, or where 2^32 - 1
+    /// clauses are in use, and then the store is as before.
     pub fn learn(
         &mut self,
         graph: &Graph,
@@ -122,9 +123,9 @@ impl Clauses {
         Ok(Some(number))
     }
 
-    /// Whether the hints show that the assumptions can't all be true: with all of them true, each hint names a clause
-    /// that is unit, or one that is false, which ends it. Assumptions and hints may name any numbers. Fails where memory
-    /// is refused.
+    /// Whether the hints show that the assumptions can't all be true: with all of them true, each
+    /// hint names a clause that is unit, or one that is false, which ends it. Assumptions and hints
+    /// may name any numbers. Fails where memory is refused.
     pub fn refutes(
         &self,
         graph: &Graph,

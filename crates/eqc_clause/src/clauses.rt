@@ -44,7 +44,8 @@ impl Clauses {
         self.clauses.len()
     }
 
-    /// The literals of the clause with this number; none where it was given up, or where no clause had the number yet.
+    /// The literals of the clause with this number; none where it was given up, or where no clause
+    /// had the number yet.
     pub fn clause(&self, number: u32) -> &[u32]
         ensures { result.now ≡ clause_of self.now number }
     {
@@ -54,8 +55,8 @@ impl Clauses {
         }
     }
 
-    /// Gives up the clause with this number, if there is one. Its memory is free at once, and its number may be that of
-    /// a later clause.
+    /// Gives up the clause with this number, if there is one. Its memory is free at once, and its
+    /// number may be that of a later clause.
     pub fn give_up(&mut self, number: u32)
         ensures gone { GivesUp self.old self.new number }
         ensures sound { (nodes : List Node) → IsSound nodes self.old → IsSound nodes self.new }
@@ -76,7 +77,8 @@ impl Clauses {
         self.free.clear();
     }
 
-    /// Puts a clause under a free number, which it gives. Where memory is refused the store stays as it is.
+    /// Puts a clause under a free number, which it gives. Where memory is refused the store stays
+    /// as it is.
     pub(crate) fn put(&mut self, clause: &[u32]) -> Result<u32, AllocError>
         ensures ok { IfOk result (λ number. Puts self.old self.new number clause.now) }
         ensures err { OnErr result (self.new ≡ self.old) }

@@ -6,7 +6,8 @@ use eqc_graph::negated;
 use std::alloc::{AllocError, Global};
 use std::marker::Model;
 
-/// Literals that are taken to be false, in the order in which they were. Those that there is room for are found again.
+/// Literals that are taken to be false, in the order in which they were. Those that there is room
+/// for are found again.
 #[derive(Drop)]
 pub(crate) struct Falsified {
     marks: Vec<bool>,

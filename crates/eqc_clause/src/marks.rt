@@ -3,7 +3,8 @@ use crate::falsified::Falsified;
 use std::alloc::Global;
 use std::marker::Model;
 
-/// A mark for each literal, in which the check notes what it takes to be false. Between its calls nothing is marked.
+/// A mark for each literal, in which the check notes what it takes to be false. Between its calls
+/// nothing is marked.
 #[derive(Drop)]
 pub struct Marks {
     pub(crate) falsified: Falsified,

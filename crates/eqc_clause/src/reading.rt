@@ -36,7 +36,8 @@ fn left_of_kept(graph: &Graph, clauses: &Clauses, number: u32, falsified: &Falsi
     left_of(clause, falsified)
 }
 
-/// What is left of the clause on that side of a node whose literal is `n`; that of the constant is (not n).
+/// What is left of the clause on that side of a node whose literal is `n`; that of the constant is
+/// (not n).
 fn left_of_gate(n: u32, node: Node, side: u32, falsified: &Falsified) -> Left
     ensures { IsLeftOfGate n node falsified.now result }
 {

@@ -16,12 +16,14 @@ pub enum End {
     Helped,
     /// A file could not be opened, or a read or a write failed.
     Failed(RunFault),
-    /// The words name no request that the program knows, or memory was refused while they were read.
+    /// The words name no request that the program knows, or memory was refused while they were
+    /// read.
     BadWords(Error),
 }
 
 impl End {
-    /// The exit status: 0 to 3 and 6 for the kinds of report, 0 for help, 4 for a fault, 5 for a bad command line.
+    /// The exit status: 0 to 3 and 6 for the kinds of report, 0 for help, 4 for a fault, 5 for a
+    /// bad command line.
     pub fn status(&self) -> u8
         ensures { result ≡ status_code self.now }
     {

@@ -83,8 +83,8 @@ fn open_texts<'a, RT: Files, R: Drop>(
     }
 }
 
-/// Opens all files that are asked for, the first text, the second, the order text and the assumption's, before any is read. Without
-/// a file, the text is the input.
+/// Opens all files that are asked for, the first text, the second, the order text and the
+/// assumption's, before any is read. Without a file, the text is the input.
 pub fn open<'a, RT: Files, R: Drop>(
     rt: &RT,
     request: &Request<'a>,

@@ -112,7 +112,8 @@ fn if_asked<'x, 'a>(
     }
 }
 
-/// Runs a comparison, which it takes, while a thread beside it shows on standard error how far it is.
+/// Runs a comparison, which it takes, while a thread beside it shows on standard error how far it
+/// is.
 fn run_beside<RT: AllocGlobal + Clock + Eprint + Threads + Wait + Sync, R: Read + Drop, W: Write>(
     rt: &RT,
     request: &Request<'_>,
@@ -193,21 +194,26 @@ fn compare<
 
 /// Does all that the program does, and answers its exit status.
 ///
-/// The words are those of the command line, the program's name first; `input`, `out` and `err` are standard input,
-/// output and error, and `is_terminal` says whether error is a terminal. The options are `--workers N`, `--nodes N`, `--cells N`, `--forks N`, `--conflicts N`, `--order FILE`,
-/// `--assume FILE`, `--all`, `--output NAME` as often as wanted, `--first-model NAME`, `--second-model NAME`, `--explain`, `--locate` and
-/// `--progress`, and up to two files are compared. All files are opened before one is read. The report is written to `out`. Where
-/// it is a verdict on a model that a model of its text contains which isn't compared, `err` gets a warning on it. Where there is no
-/// verdict and `--explain` is given, `err` gets lines on what is at fault, and where outputs differ and `--locate` is, lines on where that
-/// begins; with `--explain` on a terminal a few of them. With both, where outputs are left undecided, it gets lines on up to where the
-/// netlists are known to be equal. With `--progress` the runtime's own standard error has a
-/// line that tells how far the run is, and which is gone before anything is written to `out` or `err`.
+/// The words are those of the command line, the program's name first; `input`, `out` and `err` are
+/// standard input, output and error, and `is_terminal` says whether error is a terminal. The
+/// options are `--workers N`, `--nodes N`, `--cells N`, `--forks N`, `--conflicts N`,
+/// `--order FILE`, `--assume FILE`, `--all`, `--output NAME` as often as wanted,
+/// `--first-model NAME`, `--second-model NAME`, `--explain`, `--locate` and `--progress`, and up to
+/// two files are compared. All files are opened before one is read. The report is written to `out`.
+/// Where it is a verdict on a model that a model of its text contains which isn't compared, `err`
+/// gets a warning on it. Where there is no verdict and `--explain` is given, `err` gets lines on
+/// what is at fault, and where outputs differ and `--locate` is, lines on where that begins; with
+/// `--explain` on a terminal a few of them. With both, where outputs are left undecided, it gets
+/// lines on up to where the netlists are known to be equal. With `--progress` the runtime's own
+/// standard error has a line that tells how far the run is, and which is gone before anything is
+/// written to `out` or `err`.
 ///
-/// The status is 0 where the netlists are equivalent, 1 where they differ, 2 where the input is refused and 3 where
-/// the comparison was stopped, and 6 where no assignment meets the assumption. It is 4 where a read or a write failed, and then `err` gets `fault 91` for a read, or
-/// a file that can't be opened, and `fault 92` for a write. It is 5 for a bad command line and for want of memory in
-/// reading it; `err` gets a text on it. For `--help` and `--version` what they ask for is written to `out`, and the
-/// status is 0. The call may wait, for the threads that compare.
+/// The status is 0 where the netlists are equivalent, 1 where they differ, 2 where the input is
+/// refused and 3 where the comparison was stopped, and 6 where no assignment meets the assumption.
+/// It is 4 where a read or a write failed, and then `err` gets `fault 91` for a read, or a file
+/// that can't be opened, and `fault 92` for a write. It is 5 for a bad command line and for want of
+/// memory in reading it; `err` gets a text on it. For `--help` and `--version` what they ask for is
+/// written to `out`, and the status is 0. The call may wait, for the threads that compare.
 pub fn program<
     RT: Files + AllocGlobal + Clock + Eprint + Threads + Wait + Sync,
     R: Read + Drop,

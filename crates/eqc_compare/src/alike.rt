@@ -1,5 +1,5 @@
-//! What structures tell of a pair: outputs whose two signals have one structure are equal, whatever it computes, and of steps of
-//! one structure one needs to be made.
+//! What structures tell of a pair: outputs whose two signals have one structure are equal, whatever
+//! it computes, and of steps of one structure one needs to be made.
 ghost use Rattle.std.specs.Prelude.{◌≡◌, ℕ, ◌+◌, ◌<◌, ◌≤◌, ◌++◌, [], None, true, false, IsTrue, length, map, slice_index, IfOk, OnOk};
 ghost use Rattle.eqc_build.specs.Turns.{is_marked};
 ghost use Rattle.eqc_class.specs.Classes.{AreClasses};
@@ -53,7 +53,8 @@ fn outputs_of_one_class(
     Ok(marks)
 }
 
-/// Appends the classes of signals, by the number of each signal's class. Fails where memory is refused.
+/// Appends the classes of signals, by the number of each signal's class. Fails where memory is
+/// refused.
 fn append_classes(row: &mut Vec<u32>, numbers: &[u32], signals: &[u32]) -> Result<(), AllocError>
     requires { (k : ℕ) → k < length signals.now → slice_index signals.now k < length numbers.now }
     ensures { OnOk result (row.new.items ≡ row.old.items ++ map (slice_index numbers.now) signals.now) }
@@ -64,8 +65,8 @@ fn append_classes(row: &mut Vec<u32>, numbers: &[u32], signals: &[u32]) -> Resul
     Ok(())
 }
 
-/// For each place in a row of classes the first place of its class. The classes are below `count`. Fails where memory is
-/// refused.
+/// For each place in a row of classes the first place of its class. The classes are below `count`.
+/// Fails where memory is refused.
 fn first_of_class(alloc: Global, row: &[u32], count: usize) -> Result<Vec<u32>, AllocError>
     requires within { (k : ℕ) → k < length row.now → slice_index row.now k < count }
     requires few { length row.now ≤ 2097152 }
@@ -99,8 +100,8 @@ fn first_steps(
     Ok(chosen)
 }
 
-/// What is known of a pair by its structures: the outputs whose two signals have one are marked, and of the steps of one
-/// structure the first is chosen. Fails where memory is refused.
+/// What is known of a pair by its structures: the outputs whose two signals have one are marked,
+/// and of the steps of one structure the first is chosen. Fails where memory is refused.
 fn by_structures(alloc: Global, pair: &Pair<'_>) -> Result<Alike, AllocError>
     ensures marked { IfOk result (λ alike. TellAlike pair.now alike.equal.items) }
     ensures shared { IfOk result (λ alike. TellShared pair.now alike.chosen.items) }
@@ -135,7 +136,8 @@ pub fn is_marked(marks: &[bool], output: usize) -> bool
     marks.get(output).copied().unwrap_or(false)
 }
 
-/// Whether nothing is to be told of an output: it is not chosen, or it is marked. Those that are marked are equal.
+/// Whether nothing is to be told of an output: it is not chosen, or it is marked. Those that are
+/// marked are equal.
 pub fn is_settled(pair: &Pair<'_>, equal: &[bool], output: usize) -> bool
     requires equal { AreEqual pair.now equal.now }
     requires output { output < length pair.now.first.outputs }
@@ -161,8 +163,8 @@ pub(crate) fn are_all_settled(pair: &Pair<'_>, equal: &[bool]) -> bool
     true
 }
 
-/// Marks the outputs of which nothing is to be told: those that are not chosen, and those that are marked already, which are
-/// equal. Fails where memory is refused.
+/// Marks the outputs of which nothing is to be told: those that are not chosen, and those that are
+/// marked already, which are equal. Fails where memory is refused.
 pub(crate) fn settled_outputs(
     alloc: Global,
     pair: &Pair<'_>,

@@ -53,9 +53,10 @@ fn is_never_built<R, D: Diagrams<R>>(
 
 /// Whether a pair has an assumption that allows no assignment: its output is 0 under all of them.
 ///
-/// `d` has at least as many variables as the pair has inputs. The diagram of each signal that the assumption's output depends on
-/// is built, and of no other. The errors are those of the diagrams, 71, 72 and 73, and 72 where memory is refused. All references
-/// are given back, whatever the answer.
+/// `d` has at least as many variables as the pair has inputs. The diagram of each signal that the
+/// assumption's output depends on is built, and of no other. The errors are those of the diagrams,
+/// `NodeLimit`, `Memory` and `References`, and `Memory` where memory is refused. All references are
+/// given back, whatever the answer.
 pub fn allows_none<R, D: Diagrams<R>>(
     rt: &R,
     alloc: Global,

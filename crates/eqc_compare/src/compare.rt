@@ -1,4 +1,5 @@
-//! The comparison of outputs by one member: of one output, or of all that are chosen, in their order.
+//! The comparison of outputs by one member: of one output, or of all that are chosen, in their
+//! order.
 ghost use Rattle.std.specs.Prelude.{◌≡◌, ◌≢◌, ◌<◌, ◌≤◌, [], None, length, slice_index_or, IfOk, IfErr, OnErr};
 ghost use Rattle.std.specs.Option.{option_map};
 ghost use Rattle.eqc_tree.specs.Holding.{IsHeld, says, Keeps, Gains, Loses};
@@ -41,7 +42,8 @@ fn values_difference<R, D: Diagrams<R>>(
     d.apply(rt, Op::Xor, first, kept.get(roots[1]))
 }
 
-/// The diagram that is true where an output differs: under an assumption where that allows the assignment, too.
+/// The diagram that is true where an output differs: under an assumption where that allows the
+/// assignment, too.
 fn output_difference<R, D: Diagrams<R>>(
     rt: &R,
     d: &mut D,
@@ -66,8 +68,8 @@ fn output_difference<R, D: Diagrams<R>>(
     allowed
 }
 
-/// The least assignment under which an output differs, or none where it differs under none. The diagram that is true
-/// where it differs is given back.
+/// The least assignment under which an output differs, or none where it differs under none. The
+/// diagram that is true where it differs is given back.
 fn least_of_difference<R, D: Diagrams<R>>(
     alloc: Global,
     rt: &R,
@@ -94,7 +96,8 @@ fn least_of_difference<R, D: Diagrams<R>>(
     Ok(Some(least?))
 }
 
-/// The least assignment under which an output differs, or none, where the steps that it needs have their references.
+/// The least assignment under which an output differs, or none, where the steps that it needs have
+/// their references.
 fn difference<R, D: Diagrams<R>>(
     alloc: Global,
     rt: &R,
@@ -114,8 +117,8 @@ fn difference<R, D: Diagrams<R>>(
     least_of_difference(alloc, rt, d, steps.pair(), output, difference)
 }
 
-/// Compares an output in its turn, counted from 1; outputs come in rising order. The references that later turns need
-/// stay in the table.
+/// Compares an output in its turn, counted from 1; outputs come in rising order. The references
+/// that later turns need stay in the table.
 fn compare_turn<R, D: Diagrams<R>>(
     alloc: Global,
     rt: &R,
@@ -137,7 +140,8 @@ fn compare_turn<R, D: Diagrams<R>>(
     found
 }
 
-/// The same, and with `again`, where the store is full and references of earlier turns are kept, once more without them.
+/// The same, and with `again`, where the store is full and references of earlier turns are kept,
+/// once more without them.
 pub fn compare_kept<R, D: Diagrams<R>>(
     alloc: Global,
     rt: &R,
@@ -166,8 +170,8 @@ pub fn compare_kept<R, D: Diagrams<R>>(
     compare_turn(alloc, rt, d, plan, kept, output, turn)
 }
 
-/// The outputs that are not settled and differ, in their order, or the first of them alone. The gate is told of each before it
-/// is compared.
+/// The outputs that are not settled and differ, in their order, or the first of them alone. The
+/// gate is told of each before it is compared.
 fn compare_in_turn<R, D: Diagrams<R>, G: Gate<R>>(
     alloc: Global,
     rt: &R,
@@ -206,13 +210,14 @@ fn compare_in_turn<R, D: Diagrams<R>, G: Gate<R>>(
     Ok(found)
 }
 
-/// Compares the chosen outputs of a pair on this thread, where this is known of it: the report of `compare_outputs`, with less
-/// work. Outputs that are known to be equal are not compared, and a step that is chosen is built in place of those that it is
-/// chosen for. The gate is told of each comparison before it begins. Where the store is full and `again` is set, an output is compared
+/// Compares the chosen outputs of a pair on this thread, where this is known of it: the report of
+/// `compare_outputs`, with less work. Outputs that are known to be equal are not compared, and a
+/// step that is chosen is built in place of those that it is chosen for. The gate is told of each
+/// comparison before it begins. Where the store is full and `again` is set, an output is compared
 /// once more without what was built for later ones.
 ///
-/// The errors are those of the diagrams, 71, 72 and 73, and 72 where memory is refused. All references are given back, whatever the
-/// answer.
+/// The errors are those of the diagrams, 71, 72 and 73, and 72 where memory is refused. All
+/// references are given back, whatever the answer.
 pub fn compare_known<R, D: Diagrams<R>, G: Gate<R>>(
     alloc: Global,
     rt: &R,
@@ -243,11 +248,12 @@ pub fn compare_known<R, D: Diagrams<R>, G: Gate<R>>(
     Ok(Outcome::Compared(found?))
 }
 
-/// Compares the chosen outputs of a pair: those that differ, by their positions in the first netlist and in their order, each
-/// with the least assignment under which it does; without `every` the first of them alone, and what lies behind it isn't looked
-/// at. Whether the assumption allows none is asked first. Each signal that an output depends on is built once for each netlist,
-/// unless the store is full, and the assumption's signals once. The errors are those of `compare_known`. All references are given
-/// back, whatever the answer.
+/// Compares the chosen outputs of a pair: those that differ, by their positions in the first
+/// netlist and in their order, each with the least assignment under which it does; without `every`
+/// the first of them alone, and what lies behind it isn't looked at. Whether the assumption allows
+/// none is asked first. Each signal that an output depends on is built once for each netlist,
+/// unless the store is full, and the assumption's signals once. The errors are those of
+/// `compare_known`. All references are given back, whatever the answer.
 pub fn compare_outputs<R, D: Diagrams<R>>(
     alloc: Global,
     rt: &R,
@@ -285,15 +291,16 @@ fn compare_once<R, D: Diagrams<R>>(
     found
 }
 
-/// Compares one output of a pair, by its position in the first netlist: the least assignment of the first
-/// netlist's inputs under which it differs, in lexicographic order, 0 before 1, or none where it differs under
-/// none. Under an assumption only assignments count that it allows. The pair's order of variables plays no part, nor which
-/// outputs are chosen.
+/// Compares one output of a pair, by its position in the first netlist: the least assignment of the
+/// first netlist's inputs under which it differs, in lexicographic order, 0 before 1, or none where
+/// it differs under none. Under an assumption only assignments count that it allows. The pair's
+/// order of variables plays no part, nor which outputs are chosen.
 ///
-/// `d` has at least as many variables as the pair has inputs, and `output` is below the number of outputs. The
-/// diagram of each signal that the output or the assumption's output depends on is built, and of no other: beside what the
-/// diagrams take, time and memory are in proportion to those signals and their drivers. The errors are those of the diagrams, 71, 72 and 73, and
-/// 72 where memory is refused. All references are given back, whatever the answer.
+/// `d` has at least as many variables as the pair has inputs, and `output` is below the number of
+/// outputs. The diagram of each signal that the output or the assumption's output depends on is
+/// built, and of no other: beside what the diagrams take, time and memory are in proportion to
+/// those signals and their drivers. The errors are those of the diagrams, 71, 72 and 73, and 72
+/// where memory is refused. All references are given back, whatever the answer.
 pub fn compare_output<R, D: Diagrams<R>>(
     rt: &R,
     alloc: Global,

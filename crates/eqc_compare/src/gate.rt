@@ -1,9 +1,11 @@
-//! What is told of a comparison while it runs: each output before it is compared, and what is done meanwhile.
+//! What is told of a comparison while it runs: each output before it is compared, and what is done
+//! meanwhile.
 
 /// Told of each comparison before it begins. A gate may wait where its `R` may.
 pub trait Gate<R> {
-    /// Called once before each comparison, on the member's own thread: `worker` is the member's number in their order, from
-    /// 0, `output` the position of the output that it is about to compare. An output is compared once, if at all.
+    /// Called once before each comparison, on the member's own thread: `worker` is the member's
+    /// number in their order, from 0, `output` the position of the output that it is about to
+    /// compare. An output is compared once, if at all.
     fn enter(&self, rt: &R, worker: u32, output: u32);
 }
 
@@ -35,12 +37,13 @@ pub trait Progress<R>: Gate<R> {
     /// Called on the run's own thread as it begins with a stage. One may come more than once.
     fn stage(&self, rt: &R, stage: Stage);
 
-    /// Called on the run's own thread at any time in a stage: it is through with `done` of `all` steps while it sweeps, words while it
-    /// adds up, and with so many outputs in each other stage that comes by them. Outputs that aren't compared or asked about count too.
+    /// Called on the run's own thread at any time in a stage: it is through with `done` of `all`
+    /// steps while it sweeps, words while it adds up, and with so many outputs in each other stage
+    /// that comes by them. Outputs that aren't compared or asked about count too.
     fn step(&self, rt: &R, done: usize, all: usize);
 
-    /// Called on a member's own thread behind each operation on diagrams: so many nodes are in use. Where members share them it
-    /// is about so many, and they may tell of it in any order.
+    /// Called on a member's own thread behind each operation on diagrams: so many nodes are in use.
+    /// Where members share them it is about so many, and they may tell of it in any order.
     fn nodes(&self, rt: &R, nodes: u32);
 }
 

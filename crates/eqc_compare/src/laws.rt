@@ -1,7 +1,9 @@
-//! Laws of the definitions of differences and verdicts. The functions do nothing: their contracts are the laws.
+//! Laws of the definitions of differences and verdicts. The functions do nothing: their contracts
+//! are the laws.
 ghost use Rattle.eqc_compare.specs.VerdictLaws.{DifferenceLaw, MatchingLaw, VacuousLaw, LeastLaw, NoneLaw, UniqueLaw, FirstLaw, EquivalentLaw, FirstAloneLaw, EachLaw};
 
-/// An output differs under an assignment exactly where that is allowed and it has different values in the two netlists.
+/// An output differs under an assignment exactly where that is allowed and it has different values
+/// in the two netlists.
 pub fn difference_is_of_values()
     ensures { DifferenceLaw }
 {}
@@ -16,7 +18,8 @@ pub fn vacuous_where_none_is_allowed()
     ensures { VacuousLaw }
 {}
 
-/// The assignment of an output's difference is the least under which it differs, in lexicographic order.
+/// The assignment of an output's difference is the least under which it differs, in lexicographic
+/// order.
 pub fn least_difference_is_least()
     ensures { LeastLaw }
 {}

@@ -1,4 +1,5 @@
-//! The least assignment of a pair's inputs, for any order of these as variables, under which a function is true.
+//! The least assignment of a pair's inputs, for any order of these as variables, under which a
+//! function is true.
 ghost use Rattle.std.specs.Prelude.{◌≡◌, ◌≢◌, ℕ, ◌<◌, ◌≤◌, length, IfOk, IfErr};
 ghost use Rattle.eqc_tree.specs.Holding.{IsHeld, says, Keeps};
 ghost use Rattle.eqc_tree.specs.Assigned.{IsSatisfiable};
@@ -11,12 +12,13 @@ use eqc_pair::Pair;
 use eqc_tree::{Diagrams, References, Stop};
 use std::alloc::Global;
 
-/// The least assignment of the first netlist's inputs under which a function is true, in lexicographic order, 0
-/// before 1. The pair's order of variables plays no part.
+/// The least assignment of the first netlist's inputs under which a function is true, in
+/// lexicographic order, 0 before 1. The pair's order of variables plays no part.
 ///
-/// `d` has at least as many variables as the pair has inputs. `f` is a reference of `d` whose function is true under
-/// some assignment, and depends on no variable from the pair's number of inputs upwards. The errors are those of the
-/// diagrams, 71, 72 and 73, and 72 where memory is refused. All references are given back, whatever the answer.
+/// `d` has at least as many variables as the pair has inputs. `f` is a reference of `d` whose
+/// function is true under some assignment, and depends on no variable from the pair's number of
+/// inputs upwards. The errors are those of the diagrams, `NodeLimit`, `Memory` and `References`,
+/// and `Memory` where memory is refused. All references are given back, whatever the answer.
 pub fn least_assignment<R, D: Diagrams<R>>(
     rt: &R,
     alloc: Global,

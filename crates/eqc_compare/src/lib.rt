@@ -1,12 +1,15 @@
-//! The chosen outputs of a pair that differ, or the first of them, each with the least allowed assignment that shows it: over any
-//! store of diagrams, one output after the other.
+//! The chosen outputs of a pair that differ, or the first of them, each with the least allowed
+//! assignment that shows it: over any store of diagrams, one output after the other.
 //!
-//! What has to be found is said in `specs/Verdict.antt` and `specs/Comparing.antt`. Read the modules in this order:
+//! What has to be found is said in `specs/Verdict.antt` and `specs/Comparing.antt`. Read the
+//! modules in this order:
 //!
-//! - `outcome`, what a comparison finds; `laws`, facts about the definitions, as functions without a body
-//! - `schedule`, which outputs are compared; `compare`, one output, and all of them; `allowing`, whether the assumption allows none; `least`, the least assignment of a
-//!   pair's inputs
-//! - `alike`, what is known of a pair, and what structures tell of it; `gate`, what is told of a comparison while it runs
+//! - `outcome`, what a comparison finds; `laws`, facts about the definitions, as functions without
+//!   a body
+//! - `schedule`, which outputs are compared; `compare`, one output, and all of them; `allowing`,
+//!   whether the assumption allows none; `least`, the least assignment of a pair's inputs
+//! - `alike`, what is known of a pair, and what structures tell of it; `gate`, what is told of a
+//!   comparison while it runs
 #![tactic(auto, using(eqc_tree::proofs::HoldingLemmas::counts_itself))]
 
 mod alike;

@@ -21,12 +21,13 @@ pub struct Difference {
 pub enum Outcome {
     /// The assumption allows no assignment, so nothing was compared.
     Vacuous,
-    /// The chosen outputs that differ, in the first netlist's order, or the first of them alone: none where all are equal.
+    /// The chosen outputs that differ, in the first netlist's order, or the first of them alone:
+    /// none where all are equal.
     Compared(Vec<Difference>),
 }
 
-/// What is found of a pair of which nothing need be compared: outputs that are marked are equal, every chosen one is, and there
-/// is no assumption. None where something has to be.
+/// What is found of a pair of which nothing need be compared: outputs that are marked are equal,
+/// every chosen one is, and there is no assumption. None where something has to be.
 pub fn known_outcome(alloc: Global, pair: &Pair<'_>, marks: &[bool]) -> Option<Outcome>
     requires { AreEqual pair.now marks.now }
     ensures { IfSome result (λ outcome. (every : Bool) → IsOutcome pair.now every outcome) }

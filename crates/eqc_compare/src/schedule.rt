@@ -19,8 +19,9 @@ pub struct Schedule<'a> {
 }
 
 impl<'a> Schedule<'a> {
-    /// The schedule of a pair of which this is known: outputs that are not chosen, and those that are marked as equal, are not
-    /// compared, and a step that is chosen is made in place of those that it is chosen for. Fails where memory is refused.
+    /// The schedule of a pair of which this is known: outputs that are not chosen, and those that
+    /// are marked as equal, are not compared, and a step that is chosen is made in place of those
+    /// that it is chosen for. Fails where memory is refused.
     pub fn of(
         alloc: Global,
         pair: &'a Pair<'a>,

@@ -1,4 +1,5 @@
-//! Pairs under an assumption, which is the third model of a text: whether it allows anything, and what is reported.
+//! Pairs under an assumption, which is the third model of a text: whether it allows anything, and
+//! what is reported.
 
 ghost use Rattle.std.specs.Prelude.{◌≤◌, length};
 

@@ -1,5 +1,6 @@
-//! Comparators of two numbers, whose outputs share one chain: a link of it is used by the next one alone, so one worker holds few
-//! of them at a time, also where the chain's end is needed once more.
+//! Comparators of two numbers, whose outputs share one chain: a link of it is used by the next one
+//! alone, so one worker holds few of them at a time, also where the chain's end is needed once
+//! more.
 
 use crate::ends::holds;
 use crate::workers::{Way, gives};
@@ -12,8 +13,9 @@ use std::thread::Threads;
 /// How many bits a number has.
 const BITS: u32 = 100;
 
-/// Whether the first number is less, and whether it isn't, from the lowest bit on. A link is the majority of three, by these rows.
-/// In the order of the inputs no link's diagram is part of the next one's.
+/// Whether the first number is less, and whether it isn't, from the lowest bit on. A link is the
+/// majority of three, by these rows. In the order of the inputs no link's diagram is part of the
+/// next one's.
 fn comparator(alloc: Global, name: &str, rows: &str) -> Result<String, AllocError> {
     let inputs = input_names(alloc, 2 * BITS)?;
     let mut text = format!(in alloc; ".model {name};.inputs{inputs};.outputs z0 z1;.names c0;")?;

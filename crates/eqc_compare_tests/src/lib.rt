@@ -1,7 +1,8 @@
 //! The tests of comparisons of pairs by members and workers, with what they hold meanwhile.
 //!
 //! - `assumptions`, pairs under one
-//! - `workers`, by several in threads of their own; `parities` and `comparators`, how many nodes they take
+//! - `workers`, by several in threads of their own; `parities` and `comparators`, how many nodes
+//!   they take
 //! - `long_chains`, very many covers that stand one behind the other
 #![tactic(auto)]
 

@@ -1,5 +1,5 @@
-//! Chains of very many covers: a run sees by their structure that they are equal, and the calls on pairs build all of them, neither with
-//! a recursion that would be as deep.
+//! Chains of very many covers: a run sees by their structure that they are equal, and the calls on
+//! pairs build all of them, neither with a recursion that would be as deep.
 
 use crate::ends::holds;
 use crate::workers::{Way, gives};
@@ -74,7 +74,8 @@ fn reports(rt: &(impl AllocGlobal + Threads + Wait + Sync), text: &str, report: 
     done.is_ok() && is_text(&out, report)
 }
 
-/// Whether two netlists are equal by a run, by workers, by two members, and output by output, in stores of so many nodes.
+/// Whether two netlists are equal by a run, by workers, by two members, and output by output, in
+/// stores of so many nodes.
 fn are_equal(
     rt: &(impl AllocGlobal + Threads + Wait + Sync),
     text: &str,

@@ -1,4 +1,5 @@
-//! Exclusive ors of inputs that no other output has: how many nodes they take, by one worker and by two that share them.
+//! Exclusive ors of inputs that no other output has: how many nodes they take, by one worker and by
+//! two that share them.
 
 use crate::ends::holds;
 use crate::workers::{Held, Way, gives};
@@ -96,7 +97,8 @@ fn are_compared_within<R: Threads + Wait + Sync>(
     gives(rt, alloc, &text, way, &NoGate, "equivalent;")
 }
 
-/// All outputs together take more nodes than there is room for, so nodes of outputs that were compared are taken back.
+/// All outputs together take more nodes than there is room for, so nodes of outputs that were
+/// compared are taken back.
 #[test]
 fn nodes_are_taken_back(rt: HostRuntime) {
     let nodes = 150;
@@ -123,7 +125,8 @@ fn are_reported<R: Threads + Wait + Sync>(
     gives(rt, alloc, &text, way, &NoGate, report)
 }
 
-/// The least number of nodes with which one worker compares 64 chains, as a search over runs found it.
+/// The least number of nodes with which one worker compares 64 chains, as a search over runs found
+/// it.
 const LEAST: u32 = 39;
 
 #[test]
@@ -142,7 +145,8 @@ fn a_worker_without_outputs_takes_no_nodes(rt: HostRuntime) {
     holds(&rt, found, "an output of two workers");
 }
 
-/// Whether one of so many runs on a text by two workers, which compare the first two outputs at once, is reported so.
+/// Whether one of so many runs on a text by two workers, which compare the first two outputs at
+/// once, is reported so.
 fn is_met<R: Threads + Wait + Sync>(
     rt: &R,
     alloc: Global,

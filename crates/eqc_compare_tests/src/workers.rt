@@ -341,8 +341,8 @@ fn nothing_is_compared_behind_a_difference(rt: HostRuntime) -> Result<(), AllocE
     Ok(())
 }
 
-/// How many workers compared outputs, of so many that are waited for, in a run of many over the text `MANY` that reports the second
-/// output: none where it doesn't.
+/// How many workers compared outputs, of so many that are waited for, in a run of many over the
+/// text `MANY` that reports the second output: none where it doesn't.
 fn workers_on_many<R: AllocGlobal + Threads + Wait + Sync>(
     rt: &R,
     forks: u32,
@@ -353,11 +353,12 @@ fn workers_on_many<R: AllocGlobal + Threads + Wait + Sync>(
     workers_on(rt, run, awaited, SECOND)
 }
 
-/// How many levels of an operation workers share, and how many runs are made. Without such a level only three workers are started,
-/// since two of the five outputs are driven alike; with one all 64.
+/// How many levels of an operation workers share, and how many runs are made. Without such a level
+/// only three workers are started, since two of the five outputs are driven alike; with one all 64.
 static FORKS: &[(u32, u32)] = &[(0, 1_000), (16, 100)];
 
-/// Most runs go as they like. In each fiftieth three workers are held until all three compare an output.
+/// Most runs go as they like. In each fiftieth three workers are held until all three compare an
+/// output.
 #[test]
 fn runs_of_many_workers_write_the_same(rt: HostRuntime) {
     for (forks, turns) in FORKS {

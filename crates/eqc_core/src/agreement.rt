@@ -1,4 +1,5 @@
-//! Whether a cell's word is right, and a box's: its operation on the functions of its operands gives the function of its result.
+//! Whether a cell's word is right, and a box's: its operation on the functions of its operands
+//! gives the function of its result.
 //!
 //! The three diagrams are walked together, variable by variable (Bryant 1986, Shannon's expansion).
 ghost use Rattle.std.specs.Prelude.{◌≡◌, ◌<◌, ◌^◌, ◌↔◌, IsTrue};

@@ -17,8 +17,8 @@ pub enum Step {
     Split(u32),
     /// Joins this worker: what it held and retired is then the joiner's.
     Join(u32),
-    /// Stores to this announcement word of the worker, counted from 0, the result that was seen, or 0
-    /// to withdraw.
+    /// Stores to this announcement word of the worker, counted from 0, the result that was seen, or
+    /// 0 to withdraw.
     Announce(u32, u32),
     /// Loads, for this announcement word, a cell.
     Look(u32, u32),

@@ -170,7 +170,8 @@ pub fn scans_leave_few()
     ensures { ScansLeaveFew }
 {}
 
-/// Worker 0 may split off the next number that was never given, and its view comes behind the others.
+/// Worker 0 may split off the next number that was never given, and its view comes behind the
+/// others.
 pub fn splits_come_last()
     ensures { SplitsComeLast }
 {}
@@ -190,7 +191,8 @@ pub fn table_is_there()
     ensures { TableIsThere }
 {}
 
-/// A slot that a claim wins has no owner, no draft and no table, and no confirmed announcement names it.
+/// A slot that a claim wins has no owner, no draft and no table, and no confirmed announcement
+/// names it.
 pub fn claimed_is_free()
     ensures { ClaimedIsFree }
 {}
@@ -215,7 +217,8 @@ pub fn turns_empty()
     ensures { TurnsEmpty }
 {}
 
-/// Where worker 0 is alone and holds nothing, and no tabled slot has the count 1, nothing is tabled.
+/// Where worker 0 is alone and holds nothing, and no tabled slot has the count 1, nothing is
+/// tabled.
 pub fn no_dead_is_empty()
     ensures { NoDeadIsEmpty }
 {}

@@ -9,8 +9,8 @@
 //!   lawful state says); `event`, the steps
 //! - `state`, a state as callers have it; `playback`, what a list of events makes of it
 //! - `machine`, the stored words, and in its folder the steps on them; `worker` and `phase`, what a
-//!   worker knows; `agreement`, whether a cell's word is right; `table` and `homes`, the stripes' tables; `multiset`, `sizes` and `stock`, what these
-//!   stand on
+//!   worker knows; `agreement`, whether a cell's word is right; `table` and `homes`, the stripes'
+//!   tables; `multiset`, `sizes` and `stock`, what these stand on
 #![tactic(auto)]
 
 mod agreement;

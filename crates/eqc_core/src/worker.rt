@@ -57,7 +57,8 @@ impl Worker {
     ghost use Rattle.eqc_core.specs.Moves.{with_held};
     ghost use Rattle.eqc_core.specs.Counting.{Knows};
 
-    // A worker of this number, which holds these names, has these phases and knows nothing else yet.
+    // A worker of this number, which holds these names, has these phases and knows nothing else
+    // yet.
     fn seat(alloc: Global, number: u32, held: Vec<u32>, phases: Vec<Phase>, given: u64) -> Worker
         ensures active { result.active ≡ true }
         ensures view { (z : Numbers) → active_view z result ≡ record (fresh z number) { held = held.items; phases = phases.items; given = given } }

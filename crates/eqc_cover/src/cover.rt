@@ -1,4 +1,5 @@
-//! The diagram of a cover over the diagrams of its columns: by its truth table, by Shannon's expansion, or row by row.
+//! The diagram of a cover over the diagrams of its columns: by its truth table, by Shannon's
+//! expansion, or row by row.
 ghost use Rattle.std.specs.Prelude.{◌≡◌, ◌≢◌, ℕ, ◌<◌, ◌≤◌, ◌-◌, ◌==◌, IfSome, IfNone, Bool, true, false, List, [], ◌∷◌, length, map, not, if◌then◌else◌};
 ghost use Rattle.eqc_tree.specs.Holding.{IsHeld, Gains, Keeps, says};
 ghost use Rattle.eqc_netlist.specs.Cover.{allows, row_matches, cover_value};
@@ -16,8 +17,9 @@ use eqc_netlist::{Rows, is_on_set};
 use eqc_tree::{Diagrams, Op, References, Stop};
 use std::alloc::Global;
 
-/// The diagram that is true where whether one of the rows matches the columns is `on`. It goes by Shannon's
-/// expansion over the columns, of which there are few, and by a table where a table has room for those that are left.
+/// The diagram that is true where whether one of the rows matches the columns is `on`. It goes by
+/// Shannon's expansion over the columns, of which there are few, and by a table where a table has
+/// room for those that are left.
 fn by_columns<R, D: Diagrams<R>>(
     alloc: Global,
     rt: &R,
@@ -69,8 +71,8 @@ fn by_byte<R, D: Diagrams<R>>(rt: &R, d: &mut D, column: &D::Ref, byte: u8) -> R
     }
 }
 
-/// The diagram that is true where the row matches the columns: the conjunction of its two halves, so that the
-/// order of the columns doesn't matter.
+/// The diagram that is true where the row matches the columns: the conjunction of its two halves,
+/// so that the order of the columns doesn't matter.
 fn by_row<R, D: Diagrams<R>>(
     rt: &R,
     d: &mut D,
@@ -99,7 +101,8 @@ fn by_row<R, D: Diagrams<R>>(
     joined(rt, d, Op::And, front, back)
 }
 
-/// The diagram that is true where one of the rows matches the columns: the disjunction of their two halves.
+/// The diagram that is true where one of the rows matches the columns: the disjunction of their two
+/// halves.
 fn by_rows<R, D: Diagrams<R>>(
     rt: &R,
     d: &mut D,
@@ -146,7 +149,8 @@ fn by_all_rows<R, D: Diagrams<R>>(
     inverted(rt, d, matched)
 }
 
-/// The diagram of a cover that has more than six columns, where its splits are known or kept and there is room for all of them at once.
+/// The diagram of a cover that has more than six columns, where its splits are known or kept and
+/// there is room for all of them at once.
 fn by_kept<R, D: Diagrams<R>>(
     alloc: Global,
     rt: &R,
@@ -172,10 +176,12 @@ fn by_kept<R, D: Diagrams<R>>(
     }
 }
 
-/// The diagram of a cover (BLIF 1992, logic gates): the value of its rows where the columns have these functions.
+/// The diagram of a cover (BLIF 1992, logic gates): the value of its rows where the columns have
+/// these functions.
 ///
-/// `columns` are references of `d`, one for each column, and `rows` are those of the cover. Where the cover's value is `known` as splits,
-/// or `covers` has met it before, its rows needn't be gone through again. The errors are those of the diagrams, 71, 72 and 73, and 72 where memory is
+/// `columns` are references of `d`, one for each column, and `rows` are those of the cover. Where
+/// the cover's value is `known` as splits, or `covers` has met it before, its rows needn't be gone
+/// through again. The errors are those of the diagrams, 71, 72 and 73, and 72 where memory is
 /// refused. All other references are given back, whatever the answer.
 pub fn cover_diagram<R, D: Diagrams<R>>(
     alloc: Global,

@@ -61,8 +61,9 @@ fn copied(alloc: Global, rows: &Rows<'_>) -> Result<Vec<Vec<u8>>, AllocError>
 }
 
 impl Expansion {
-    /// The value of the cover of these rows over so many columns, of which there are at least six. None where it isn't expanded column
-    /// by column, and where it has too many splits. Its rows are gone through a few times. Fails where memory is refused.
+    /// The value of the cover of these rows over so many columns, of which there are at least six.
+    /// None where it isn't expanded column by column, and where it has too many splits. Its rows
+    /// are gone through a few times. Fails where memory is refused.
     pub fn of(
         alloc: Global,
         rows: &Rows<'_>,
@@ -93,8 +94,8 @@ impl Expansion {
 }
 
 impl SplitCover {
-    /// The cover of these rows over so many columns, at least six. None where it isn't expanded, and where it has too many
-    /// splits. Fails where memory is refused.
+    /// The cover of these rows over so many columns, at least six. None where it isn't expanded,
+    /// and where it has too many splits. Fails where memory is refused.
     fn of(alloc: Global, rows: &Rows<'_>, columns: usize) -> Result<Option<SplitCover>, AllocError>
         requires columns { 6 ≤ columns }
         requires rows { (length rows.now == 0) ≡ false }
@@ -149,8 +150,8 @@ enum Met {
     Split(SplitCover),
 }
 
-/// Covers that were met, each by a number, in an ordered table: a text may choose the numbers. One that is met again is kept as
-/// splits from then on, if it is expanded and there is room.
+/// Covers that were met, each by a number, in an ordered table: a text may choose the numbers. One
+/// that is met again is kept as splits from then on, if it is expanded and there is room.
 #[derive(Drop)]
 pub struct Covers {
     met: BTreeMap<u64, Met>,
@@ -167,7 +168,8 @@ fn with_row(number: u64, row: &[u8]) -> u64 {
     number
 }
 
-/// A number for a cover, out of four of its rows. Covers that share it are told apart by all their rows.
+/// A number for a cover, out of four of its rows. Covers that share it are told apart by all their
+/// rows.
 fn number_of(rows: &Rows<'_>, columns: usize) -> u64
     requires { (length rows.now == 0) ≡ false }
 {
@@ -203,7 +205,8 @@ impl Covers {
         Met::Split(cover)
     }
 
-    /// Notes that a cover of these rows over so many columns, which has this number, is met. Fails where memory is refused.
+    /// Notes that a cover of these rows over so many columns, which has this number, is met. Fails
+    /// where memory is refused.
     fn meet(
         &mut self,
         alloc: Global,
@@ -225,7 +228,8 @@ impl Covers {
         }
     }
 
-    /// The value of the cover of these rows over so many columns as splits, if it is kept. It is noted that it is met.
+    /// The value of the cover of these rows over so many columns as splits, if it is kept. It is
+    /// noted that it is met.
     pub(crate) fn splits_of(
         &mut self,
         alloc: Global,

@@ -1,4 +1,5 @@
-//! The diagram of a truth table over the diagrams of its columns: the table is split at one column after the other.
+//! The diagram of a truth table over the diagrams of its columns: the table is split at one column
+//! after the other.
 ghost use Rattle.std.specs.Prelude.{◌≡◌, ℕ, ◌≤◌, Bool, length};
 ghost use Rattle.eqc_tree.specs.Holding.{IsHeld, says};
 ghost use Rattle.eqc_cover.specs.Matching.{AreHeld, said};
@@ -35,11 +36,13 @@ fn turned<R, D: Diagrams<R>>(
     made
 }
 
-/// The diagram of a truth table, as `cover_table` gives it, that depends on no other columns than those that are open.
+/// The diagram of a truth table, as `cover_table` gives it, that depends on no other columns than
+/// those that are open.
 ///
-/// `columns` are references of `d`, at most six, and `open_columns` says of each whether it is open. A column is closed at each call,
-/// so that calls are at most seven deep. The errors are those of the diagrams, 71, 72 and 73. All other references are given back,
-/// whatever the answer.
+/// `columns` are references of `d`, at most six, and `open_columns` says of each whether it is
+/// open. A column is closed at each call, so that calls are at most seven deep. The errors are
+/// those of the diagrams, `NodeLimit`, `Memory` and `References`. All other references are given
+/// back, whatever the answer.
 pub fn by_table<R, D: Diagrams<R>>(
     rt: &R,
     d: &mut D,

@@ -1,4 +1,5 @@
-//! The least assignment under which a function is true, from the diagrams' nodes or by applies to blocks of variables.
+//! The least assignment under which a function is true, from the diagrams' nodes or by applies to
+//! blocks of variables.
 ghost use Rattle.std.specs.Prelude.{◌≡◌, ◌≢◌, ◌↔◌, ℕ, ◌<◌, ◌≤◌, ◌++◌, ◌&&◌, Bool, false, not, length, replicate, IsTrue, IfOk, IfErr, OnOk, OnErr};
 ghost use Rattle.std.specs.List.{All, find, list_any};
 ghost use Rattle.eqc_tree.specs.Holding.{IsHeld, says, Keeps, Loses};
@@ -18,8 +19,8 @@ pub fn is_false<D: References>(d: &D, f: &D::Ref) -> bool
     d.as_constant(f) == Some(false)
 }
 
-/// The function that is true where one of these variables is: the disjunction of its two halves, so that the order of
-/// the variables doesn't matter.
+/// The function that is true where one of these variables is: the disjunction of its two halves, so
+/// that the order of the variables doesn't matter.
 fn one_of<R, D: Diagrams<R>>(rt: &R, d: &mut D, variables: &[u16]) -> Result<D::Ref, Stop>
     requires { All (λ v. v < (D.holding d.old).variables) variables.now }
     ensures { Makes D.entry (D.holding d.old) (D.holding d.new) result (λ a. list_any a variables.now) }
@@ -52,8 +53,8 @@ fn without<R, D: Diagrams<R>>(
     low
 }
 
-/// Whether a function is satisfiable where all of these variables are false, and then what is left of it there, else
-/// the function. Its reference is given back where it is not the same one.
+/// Whether a function is satisfiable where all of these variables are false, and then what is left
+/// of it there, else the function. Its reference is given back where it is not the same one.
 fn narrowed<R, D: Diagrams<R>>(
     rt: &R,
     d: &mut D,
@@ -92,7 +93,8 @@ fn push_times(values: &mut Vec<bool>, value: bool, count: usize) -> Result<(), A
     Ok(())
 }
 
-/// The length of the next block: at most `longest`, and at most that of the positions that are left.
+/// The length of the next block: at most `longest`, and at most that of the positions that are
+/// left.
 fn block_length(longest: usize, left: usize) -> usize
     ensures longest { result ≤ longest }
     ensures left { result ≤ left }
@@ -101,8 +103,8 @@ fn block_length(longest: usize, left: usize) -> usize
     if longest < left { longest } else { left }
 }
 
-/// Puts the values that the try of a block of this length decides behind others, and answers how long the next block may
-/// be. Fails where memory is refused.
+/// Puts the values that the try of a block of this length decides behind others, and answers how
+/// long the next block may be. Fails where memory is refused.
 fn decide(values: &mut Vec<bool>, narrows: bool, length: usize) -> Result<usize, AllocError>
     requires { 0 < length }
     ensures values { OnOk result (values.new.items ≡ values.old.items ++ decided narrows length) }
@@ -121,9 +123,9 @@ fn decide(values: &mut Vec<bool>, narrows: bool, length: usize) -> Result<usize,
 
 /// The least assignment as `least_over` finds it, by applies alone.
 ///
-/// Blocks of positions are tried at false at once: the next is twice as long where that leaves the function satisfiable,
-/// and half as long where it doesn't, down to one position, which then is true. So what is decided is not put into
-/// the function position by position.
+/// Blocks of positions are tried at false at once: the next is twice as long where that leaves the
+/// function satisfiable, and half as long where it doesn't, down to one position, which then is
+/// true. So what is decided is not put into the function position by position.
 fn by_blocks<R, D: Diagrams<R>>(
     alloc: Global,
     rt: &R,
@@ -158,13 +160,13 @@ fn by_blocks<R, D: Diagrams<R>>(
     Ok(values)
 }
 
-/// The least assignment under which a function is true, in lexicographic order over the positions, false before
-/// true. `variables` gives the variable of each position; the order of the variables plays no part. Where the diagrams
-/// can't tell it from their nodes, it is found by applies.
+/// The least assignment under which a function is true, in lexicographic order over the positions,
+/// false before true. `variables` gives the variable of each position; the order of the variables
+/// plays no part. Where the diagrams can't tell it from their nodes, it is found by applies.
 ///
-/// `f` has to be true under some assignment, and to depend on no variable but these, of which none may stand twice.
-/// The errors are those of the diagrams, 71, 72 and 73, and 72 where there is no memory for the assignment. All
-/// references are given back, whatever the answer.
+/// `f` has to be true under some assignment, and to depend on no variable but these, of which none
+/// may stand twice. The errors are those of the diagrams, 71, 72 and 73, and 72 where there is no
+/// memory for the assignment. All references are given back, whatever the answer.
 pub fn least_over<R, D: Diagrams<R>>(
     alloc: Global,
     rt: &R,

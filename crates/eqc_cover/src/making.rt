@@ -6,7 +6,8 @@ ghost use Rattle.eqc_cover.specs.Making.{OwnsMade, OwnsInTurn, HasBoth, Inverts,
 
 use eqc_tree::{Diagrams, Op, References, Stop};
 
-/// Two references of which the second was made after the first. Where it was not made, the first is given back.
+/// Two references of which the second was made after the first. Where it was not made, the first is
+/// given back.
 fn both<D: References>(
     d: &mut D,
     first: D::Ref,
@@ -24,8 +25,8 @@ fn both<D: References>(
     }
 }
 
-/// An operation on a reference and on one that was made after it. Both are given back; where the second was not made,
-/// the first is.
+/// An operation on a reference and on one that was made after it. Both are given back; where the
+/// second was not made, the first is.
 pub(crate) fn joined<R, D: Diagrams<R>>(
     rt: &R,
     d: &mut D,
@@ -43,8 +44,8 @@ pub(crate) fn joined<R, D: Diagrams<R>>(
     made
 }
 
-/// The one reference where the column is true, and the other, which was made after it, where the column is false. Both
-/// are given back; where the second was not made, the first is.
+/// The one reference where the column is true, and the other, which was made after it, where the
+/// column is false. Both are given back; where the second was not made, the first is.
 pub(crate) fn chosen<R, D: Diagrams<R>>(
     rt: &R,
     d: &mut D,

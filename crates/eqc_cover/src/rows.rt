@@ -118,7 +118,8 @@ pub(crate) fn cofactors<'a>(
     })
 }
 
-/// A row's places for so many columns, up to the last of them that asks for a value: a row that asks for none is empty.
+/// A row's places for so many columns, up to the last of them that asks for a value: a row that
+/// asks for none is empty.
 fn up_to_last_literal(row: &[u8], columns: usize) -> &[u8]
     ensures { RowsAlike columns result.now row.now }
 {
@@ -132,7 +133,8 @@ fn up_to_last_literal(row: &[u8], columns: usize) -> &[u8]
     places
 }
 
-/// The rows of a cover over so many columns, each up to its last literal. Fails where memory is refused.
+/// The rows of a cover over so many columns, each up to its last literal. Fails where memory is
+/// refused.
 fn slices<'a>(
     alloc: Global,
     rows: &'a Rows<'_>,
@@ -147,8 +149,8 @@ fn slices<'a>(
     Ok(slices)
 }
 
-/// The rows of a cover over so many columns, each up to its last literal, and those that stand several times once. Fails
-/// where memory is refused.
+/// The rows of a cover over so many columns, each up to its last literal, and those that stand
+/// several times once. Fails where memory is refused.
 fn distinct<'a>(
     alloc: Global,
     rows: &'a Rows<'_>,
@@ -167,9 +169,9 @@ fn distinct<'a>(
     Ok(kept)
 }
 
-/// What is left of a budget after an expansion of the rows over so many columns, which visits each row of each
-/// cofactor once, or none where the budget doesn't suffice. It is counted down to two columns: a table, by which the last
-/// ones go, takes less. Fails where memory is refused.
+/// What is left of a budget after an expansion of the rows over so many columns, which visits each
+/// row of each cofactor once, or none where the budget doesn't suffice. It is counted down to two
+/// columns: a table, by which the last ones go, takes less. Fails where memory is refused.
 fn left_after(
     alloc: Global,
     rows: &[&[u8]],
@@ -192,8 +194,9 @@ fn left_after(
     left_after(alloc, &both.when_false, columns - 1, left)
 }
 
-/// A number of visits that no expansion of the rows over so many columns exceeds: a row stands in each cofactor that
-/// its dashes allow, down to those where it has no places left, or where two columns are left.
+/// A number of visits that no expansion of the rows over so many columns exceeds: a row stands in
+/// each cofactor that its dashes allow, down to those where it has no places left, or where two
+/// columns are left.
 fn most_visits(rows: &[&[u8]], columns: usize) -> usize {
     let mut visits: usize = 0;
     for row in rows {
@@ -209,8 +212,8 @@ fn most_visits(rows: &[&[u8]], columns: usize) -> usize {
     visits
 }
 
-/// Whether an expansion is thought of: where the columns are few, or where the rows have as many places as there are
-/// values of the columns.
+/// Whether an expansion is thought of: where the columns are few, or where the rows have as many
+/// places as there are values of the columns.
 fn is_narrow(columns: usize, rows: usize) -> bool {
     columns <= NARROW || (columns <= WIDEST && rows >= 1 << (columns - NARROW))
 }

@@ -1,5 +1,5 @@
-//! How a truth table is split at one of its columns, so that few operations join what is left of it where the column is
-//! true and where it is false.
+//! How a truth table is split at one of its columns, so that few operations join what is left of it
+//! where the column is true and where it is false.
 ghost use Rattle.std.specs.Prelude.{◌≡◌, ℕ, ◌≤◌, ◌&&◌, Bool, true, List, length, if◌then◌else◌};
 ghost use Rattle.eqc_cover.specs.Table.{table_value, DependsOnOpen};
 ghost use Rattle.eqc_cover.specs.Splitting.{part_value, parts_value, StaysOpen};
@@ -43,8 +43,8 @@ fn implies(table: u64, other: u64) -> bool
     table & !other == 0
 }
 
-/// The part that says what a table does where the column is true, and nothing elsewhere. Its own table is false where all
-/// columns are, so that a complement is made of a column at most.
+/// The part that says what a table does where the column is true, and nothing elsewhere. Its own
+/// table is false where all columns are, so that a complement is made of a column at most.
 pub(crate) fn where_true(table: u64) -> Part
     ensures value { (x : Bool) → (vs : List Bool) → length vs ≤ 6 → part_value result x vs ≡ (x && table_value table vs) }
     ensures open { StaysOpen table table result.table }
@@ -67,8 +67,9 @@ pub(crate) fn where_true(table: u64) -> Part
     }
 }
 
-/// A table that is `high` where the column is true, and `low` where it is false, in two parts of which the first is made
-/// of `low`: joined by an exclusive or where the two are opposite, and by an or or an and where one implies the other.
+/// A table that is `high` where the column is true, and `low` where it is false, in two parts of
+/// which the first is made of `low`: joined by an exclusive or where the two are opposite, and by
+/// an or or an and where one implies the other.
 pub(crate) fn split(high: u64, low: u64) -> Parts
     ensures value { (x : Bool) → (vs : List Bool) → length vs ≤ 6 → parts_value result x vs ≡ (if x then table_value high vs else table_value low vs) }
     ensures front { result.front.table ≡ low }

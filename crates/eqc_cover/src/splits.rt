@@ -1,5 +1,5 @@
-//! A cover over its own columns as splits, each made once: tables of the last six columns, and choices by a column between
-//! two splits before them.
+//! A cover over its own columns as splits, each made once: tables of the last six columns, and
+//! choices by a column between two splits before them.
 ghost use Rattle.std.specs.Prelude.{◌≡◌, ℕ, ◌+◌, ◌<◌, ◌≤◌, ◌++◌, [], ◌∷◌, drop, length, map, true, Bool, List, IfOk, OnOk};
 ghost use Rattle.std.specs.Option.{IfSome};
 ghost use Rattle.eqc_cover.specs.Matching.{agrees, some_match};
@@ -34,8 +34,8 @@ pub(crate) struct Choice {
     pub(crate) low: usize,
 }
 
-/// Splits that are being made. Where each stands is noted, in ordered tables, since a text may choose the tables; what is noted is
-/// looked at before it is believed.
+/// Splits that are being made. Where each stands is noted, in ordered tables, since a text may
+/// choose the tables; what is noted is looked at before it is believed.
 #[derive(Drop)]
 pub(crate) struct Splits {
     pub(crate) list: Vec<Split>,
@@ -77,8 +77,8 @@ impl Splits {
         }
     }
 
-    /// Puts a split behind the others, and answers its place. Fails where memory is refused, and where there are as many
-    /// splits as a cover may have.
+    /// Puts a split behind the others, and answers its place. Fails where memory is refused, and
+    /// where there are as many splits as a cover may have.
     fn add(&mut self, split: Split) -> Result<usize, AllocError>
         ensures place { IfOk result (λ k. k ≡ length self.old.list.items) }
         ensures list { OnOk result (self.new.list.items ≡ self.old.list.items ++ split ∷ []) }
@@ -167,9 +167,9 @@ fn last_table(rows: &[&[u8]], on: bool) -> u64
     if on { matched } else { !matched }
 }
 
-/// The place of the split that is true where whether one of the rows matches the columns from this one on is `on`. It goes
-/// by Shannon's expansion, down to tables of the last six columns. Fails where memory is refused, and where there are too
-/// many splits.
+/// The place of the split that is true where whether one of the rows matches the columns from this
+/// one on is `on`. It goes by Shannon's expansion, down to tables of the last six columns. Fails
+/// where memory is refused, and where there are too many splits.
 pub(crate) fn expand(
     alloc: Global,
     splits: &mut Splits,

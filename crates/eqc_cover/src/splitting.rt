@@ -11,7 +11,8 @@ use crate::table::MOST_COLUMNS;
 use eqc_tree::{Diagrams, References, Stop};
 use std::alloc::Global;
 
-/// The diagram of a choice by a column between two that were made. One whose column or splits there aren't isn't made.
+/// The diagram of a choice by a column between two that were made. One whose column or splits there
+/// aren't isn't made.
 fn by_choice<R, D: Diagrams<R>>(
     rt: &R,
     d: &mut D,

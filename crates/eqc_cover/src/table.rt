@@ -1,4 +1,5 @@
-//! Truth tables of up to six columns, each a number: bit i is the value where column j has the value of bit j of i.
+//! Truth tables of up to six columns, each a number: bit i is the value where column j has the
+//! value of bit j of i.
 ghost use Rattle.std.specs.Prelude.{◌≡◌, ℕ, ◌<◌, ◌≤◌, ◌==◌, ◌||◌, Bool, true, false, length, map, slice_index_or};
 ghost use Rattle.std.specs.List.{list_any};
 ghost use Rattle.std.specs.Option.{IfSome, IfNone};
@@ -29,7 +30,8 @@ fn column_table(j: usize) -> u64
     COLUMNS[j]
 }
 
-/// What is left of a table where column `j`, from 0 to 5, has this value. The column plays no part in it.
+/// What is left of a table where column `j`, from 0 to 5, has this value. The column plays no part
+/// in it.
 pub fn cofactor(table: u64, j: usize, value: bool) -> u64
     requires { j < 6 }
     ensures { IsCofactor table j value result }
@@ -64,8 +66,8 @@ fn support(table: u64) -> u32
     count
 }
 
-/// How much is left to do after a split at column `j`: nothing where one operation takes the column out, and more than at
-/// any other column where the table doesn't depend on it.
+/// How much is left to do after a split at column `j`: nothing where one operation takes the column
+/// out, and more than at any other column where the table doesn't depend on it.
 fn work_left(table: u64, j: usize) -> u32
     requires { j < 6 }
 {
@@ -80,8 +82,9 @@ fn work_left(table: u64, j: usize) -> u32
     support(high) + support(low)
 }
 
-/// The column at which a table is best split: of so many columns, at most six, the open one that leaves the least to do; none
-/// where no column is open. `open_columns` says of each column whether it is open.
+/// The column at which a table is best split: of so many columns, at most six, the open one that
+/// leaves the least to do; none where no column is open. `open_columns` says of each column whether
+/// it is open.
 pub fn best_column(table: u64, columns: usize, open_columns: &[bool]) -> Option<usize>
     requires { columns ≤ 6 }
     ensures some { IfSome result (λ j. (j < columns) × (slice_index_or open_columns.now j false ≡ true)) }
@@ -149,8 +152,8 @@ pub(crate) fn matching_table(rows: &[&[u8]], columns: usize) -> u64
     table
 }
 
-/// The table of a cover with these rows over so many columns, at most six: the value of the cover under all their values
-/// (BLIF 1992, logic gates).
+/// The table of a cover with these rows over so many columns, at most six: the value of the cover
+/// under all their values (BLIF 1992, logic gates).
 pub fn cover_table(rows: &Rows<'_>, columns: usize) -> u64
     requires { columns ≤ 6 }
     ensures { Tabulates result columns (cover_value rows.now) }

@@ -1,4 +1,5 @@
-//! The words for up to where two netlists are known to be equal: signals with their partners, those of a word together.
+//! The words for up to where two netlists are known to be equal: signals with their partners, those
+//! of a word together.
 
 use crate::lines::Lines;
 use crate::shown::{LISTED, Shown};
@@ -35,7 +36,8 @@ struct Group<'a> {
     count: u32,
 }
 
-/// Where a name's index begins and ends between its brackets or dashes, of names as `p[3]`, `p<3>`, `p(3)` and `p_3_`.
+/// Where a name's index begins and ends between its brackets or dashes, of names as `p[3]`, `p<3>`,
+/// `p(3)` and `p_3_`.
 fn index_in(name: &[u8]) -> Option<(usize, usize)> {
     let (last, front) = name.split_last()?;
     let open = match *last {
@@ -148,8 +150,8 @@ fn group_among(
     None
 }
 
-/// Puts a meeting into its group, or makes one of it, where there are fewer words than are told apart, or fewer single signals than are told.
-/// Fails where memory is refused.
+/// Puts a meeting into its group, or makes one of it, where there are fewer words than are told
+/// apart, or fewer single signals than are told. Fails where memory is refused.
 fn put_meeting<'a>(
     designs: &Designs<'a>,
     meeting: &Meeting,
@@ -178,7 +180,8 @@ fn put_meeting<'a>(
     Ok(())
 }
 
-/// The groups that are told: first words of several signals, then single ones, the nearest of each first. Fails where memory is refused.
+/// The groups that are told: first words of several signals, then single ones, the nearest of each
+/// first. Fails where memory is refused.
 fn told_groups<'a>(
     alloc: Global,
     designs: &Designs<'a>,
@@ -200,8 +203,8 @@ fn told_groups<'a>(
     Ok(told)
 }
 
-/// A bit's name, or that of its word between two numbers, the path of its instance, its netlist and the line of its driver. Fails where memory
-/// is refused.
+/// A bit's name, or that of its word between two numbers, the path of its instance, its netlist and
+/// the line of its driver. Fails where memory is refused.
 fn bit_said(
     alloc: Global,
     designs: &Designs<'_>,
@@ -226,7 +229,8 @@ fn bit_said(
     }
 }
 
-/// The line on a group: its word, its partner's, and how many of the numbers between have partners. Fails where memory is refused.
+/// The line on a group: its word, its partner's, and how many of the numbers between have partners.
+/// Fails where memory is refused.
 fn group_said(
     alloc: Global,
     designs: &Designs<'_>,
@@ -266,8 +270,8 @@ fn border_said(alloc: Global, border: &Border) -> Result<String, AllocError> {
     }
 }
 
-/// Puts the lines on up to where two netlists are known to be equal, if outputs are left below which that is told. Fails where memory is
-/// refused, and then some aren't put.
+/// Puts the lines on up to where two netlists are known to be equal, if outputs are left below
+/// which that is told. Fails where memory is refused, and then some aren't put.
 pub fn say_border(
     alloc: Global,
     designs: &Designs<'_>,

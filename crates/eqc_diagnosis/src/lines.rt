@@ -23,7 +23,8 @@ impl Lines {
         self.text.as_bytes()
     }
 
-    /// Puts a line behind the others, which says this. Fails where memory is refused, or was for what it says, and then it stays out.
+    /// Puts a line behind the others, which says this. Fails where memory is refused, or was for
+    /// what it says, and then it stays out.
     pub fn put(&mut self, said: Result<String, AllocError>) -> Result<(), AllocError> {
         let line = format!(in self.alloc; "eqc: {}\n", said?)?;
         self.text.push_str(&line)

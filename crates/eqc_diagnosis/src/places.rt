@@ -78,8 +78,9 @@ fn mending_said(
     )
 }
 
-/// The line on a place: its name, the line of its driver, its value, in how many of the simulated assignments under which the output differs
-/// it is mended, and its cover with the values of its columns. Fails where memory is refused.
+/// The line on a place: its name, the line of its driver, its value, in how many of the simulated
+/// assignments under which the output differs it is mended, and its cover with the values of its
+/// columns. Fails where memory is refused.
 fn place_said(
     alloc: Global,
     designs: &Designs<'_>,
@@ -125,7 +126,8 @@ fn output_said(alloc: Global, output: &[u8], places: &Places) -> Result<String, 
     )
 }
 
-/// The line on the other outputs that may begin to differ at a place. Fails where memory is refused.
+/// The line on the other outputs that may begin to differ at a place. Fails where memory is
+/// refused.
 fn sharing_said(
     alloc: Global,
     designs: &Designs<'_>,
@@ -151,8 +153,8 @@ fn brief_output_said(alloc: Global, output: &[u8]) -> Result<String, AllocError>
     format!(in alloc; "'{}' may begin to differ at:", Whole(output))
 }
 
-/// The short line on a place, where the texts of the designs are called so: the line of its driver, its name, and what would mend it. Fails
-/// where memory is refused.
+/// The short line on a place, where the texts of the designs are called so: the line of its driver,
+/// its name, and what would mend it. Fails where memory is refused.
 fn brief_place_said(
     alloc: Global,
     designs: &Designs<'_>,
@@ -186,7 +188,8 @@ fn unplaced_said(alloc: Global, count: usize) -> Result<String, AllocError> {
     format!(in alloc; "{count} more {what} may begin to differ elsewhere, which was not looked for")
 }
 
-/// Puts the lines on the places at which an output of this name may begin to differ. Fails where memory is refused, and then some aren't put.
+/// Puts the lines on the places at which an output of this name may begin to differ. Fails where
+/// memory is refused, and then some aren't put.
 pub fn say_places(
     alloc: Global,
     designs: &Designs<'_>,
@@ -204,8 +207,8 @@ pub fn say_places(
     Ok(())
 }
 
-/// Puts the line on the other outputs, by their names, that may begin to differ at one of the places of an output, too. Fails where memory
-/// is refused, and then it isn't put.
+/// Puts the line on the other outputs, by their names, that may begin to differ at one of the
+/// places of an output, too. Fails where memory is refused, and then it isn't put.
 pub fn say_sharing(
     alloc: Global,
     designs: &Designs<'_>,
@@ -216,8 +219,9 @@ pub fn say_sharing(
     lines.put(sharing_said(alloc, designs, place, others))
 }
 
-/// Puts the lines in short on the first of the places at which an output of this name may begin to differ, if there are any, where the texts
-/// of the designs are called so. Fails where memory is refused, and then some aren't put.
+/// Puts the lines in short on the first of the places at which an output of this name may begin to
+/// differ, if there are any, where the texts of the designs are called so. Fails where memory is
+/// refused, and then some aren't put.
 pub fn say_briefly(
     alloc: Global,
     designs: &Designs<'_>,
@@ -236,7 +240,8 @@ pub fn say_briefly(
     lines.put(String::from_str(alloc, LOCATE_HINT))
 }
 
-/// Puts the line on so many outputs that differ, for which no place was looked for. Fails where memory is refused, and then it isn't put.
+/// Puts the line on so many outputs that differ, for which no place was looked for. Fails where
+/// memory is refused, and then it isn't put.
 pub fn say_unplaced(alloc: Global, count: usize, lines: &mut Lines) -> Result<(), AllocError> {
     lines.put(unplaced_said(alloc, count))
 }

@@ -1,7 +1,7 @@
 //! A signal of a pair, by its name and by where it stands in its design.
 //!
-//! A path of an instance is read from the main model down: `2:adder/1:cell` is, in the second `.subckt` of the main model, an
-//! `adder`, its first one, a `cell`.
+//! A path of an instance is read from the main model down: `2:adder/1:cell` is, in the second
+//! `.subckt` of the main model, an `adder`, its first one, a `cell`.
 ghost use Rattle.std.specs.Prelude.{◌<◌, ◌≤◌, length, IfSome};
 
 use crate::shown::Shown;
@@ -63,7 +63,8 @@ pub(crate) fn signal_of<'a>(designs: &Designs<'a>, step: u32) -> Option<Signal<'
     })
 }
 
-/// The positions of an instance and of those around it, the innermost first. Fails where memory is refused.
+/// The positions of an instance and of those around it, the innermost first. Fails where memory is
+/// refused.
 fn positions_of(alloc: Global, flat: &Flat<'_>, instance: u32) -> Result<Vec<u32>, AllocError>
     requires { instance ≤ length flat.now.places }
 {
@@ -86,7 +87,8 @@ fn model_at(library: &Library, model: usize, position: u32) -> Option<(&Name, us
     Some((&instance.model, library.find(&instance.model)?))
 }
 
-/// The model of the last instance of a way, and the way as it is read, empty for the main model. Fails where memory is refused.
+/// The model of the last instance of a way, and the way as it is read, empty for the main model.
+/// Fails where memory is refused.
 fn path_of(
     alloc: Global,
     design: Design<'_>,
@@ -115,7 +117,8 @@ fn path_of(
 }
 
 impl<'a> Signal<'a> {
-    /// The way to its instance, and the number of the model that it stands in. Fails where memory is refused.
+    /// The way to its instance, and the number of the model that it stands in. Fails where memory
+    /// is refused.
     pub(crate) fn path(&self, alloc: Global) -> Result<(usize, String), AllocError>
         requires { self.now.number < length self.now.flat.now.drivers }
     {
@@ -134,7 +137,8 @@ impl<'a> Signal<'a> {
         Ok((said, model))
     }
 
-    /// The line of the cover that drives it, where it stands in a model of this number, if it is found.
+    /// The line of the cover that drives it, where it stands in a model of this number, if it is
+    /// found.
     pub(crate) fn line(&self, model: usize) -> Option<u32>
         requires { self.now.number < length self.now.flat.now.drivers }
     {

@@ -88,7 +88,8 @@ impl<'a> Statement<'a> {
     }
 }
 
-/// The line at which the cover of a signal begins in a model of a text, counted from 1, if it is found.
+/// The line at which the cover of a signal begins in a model of a text, counted from 1, if it is
+/// found.
 pub(crate) fn line_of_cover(text: &[u8], model: &[u8], name: &[u8]) -> Option<u32> {
     let mut statement = Statement {
         model,

@@ -1,5 +1,5 @@
-//! Diagrams on one thread, and what no clause says of them: that calls succeed where there is memory, how deep an apply
-//! goes, and that it keeps results.
+//! Diagrams on one thread, and what no clause says of them: that calls succeed where there is
+//! memory, how deep an apply goes, and that it keeps results.
 #![tactic(auto, using(eqc_tree::proofs::HoldingLemmas::counts_itself))]
 
 ghost use Rattle.std.specs.Prelude.{◌≡◌, ◌<◌, ◌+◌, ◌↔◌, ℕ, Bool, IsTrue, true, OnErr, IfOk};
@@ -191,7 +191,8 @@ fn choice_of<R, D: Diagrams<R>>(
     Ok(found)
 }
 
-/// Whether the choice between the constants by a function is that function, and the value that is read of it.
+/// Whether the choice between the constants by a function is that function, and the value that is
+/// read of it.
 fn choice<R, D: Diagrams<R>>(rt: &R, d: &mut D, x: &D::Ref) -> Result<(bool, Option<bool>), Stop>
     requires { IsHeld (D.holding d.old) (D.entry x.now) }
     ensures { Keeps (D.holding d.old) (D.holding d.new) }
@@ -226,8 +227,8 @@ fn one_node_is_room_for_one_literal(rt: HostRuntime) {
     same(&rt, constant_value(&mut d, false), Ok(Some(false)), "false");
 }
 
-/// The value that is read of the exclusive or of two functions of the first `vars` variables: that all are true, and that
-/// some are.
+/// The value that is read of the exclusive or of two functions of the first `vars` variables: that
+/// all are true, and that some are.
 fn mixed_value<R, D: Diagrams<R>>(rt: &R, d: &mut D, vars: u16) -> Result<Option<bool>, Stop>
     requires { vars < (D.holding d.old).variables + 1 }
     ensures { Keeps (D.holding d.old) (D.holding d.new) }
@@ -255,8 +256,8 @@ fn an_apply_passes_all_variables(rt: HostRuntime) {
     same(&rt, mixed_value(&rt, &mut d, 65_535), Ok(None), "mixed");
 }
 
-/// How many turns operations may take beyond those that are free, and what comes of two functions of 10,000 variables, whose
-/// exclusive or takes tens of thousands.
+/// How many turns operations may take beyond those that are free, and what comes of two functions
+/// of 10,000 variables, whose exclusive or takes tens of thousands.
 static ALLOWED: &[(&str, Option<u64>, Result<Option<bool>, Stop>)] = &[
     ("as many as they need", None, Ok(None)),
     ("a million", Some(1_000_000), Ok(None)),
@@ -273,7 +274,8 @@ fn an_apply_ends_with_the_turns_that_are_allowed(rt: HostRuntime) {
     }
 }
 
-/// Whether a reference stays what it is while diagrams over 40 variables are made, and how the making ends.
+/// Whether a reference stays what it is while diagrams over 40 variables are made, and how the
+/// making ends.
 fn holds_through<R, D: Diagrams<R>>(rt: &R, d: &mut D) -> Result<(bool, Result<(), Stop>), Stop>
     requires { 39 < (D.holding d.old).variables }
     ensures { Keeps (D.holding d.old) (D.holding d.new) }
@@ -333,8 +335,8 @@ fn commutes<R, D: Diagrams<R>>(
     agree
 }
 
-/// Whether the operations that commute give one function in both orders of these operands, and the other one doesn't; and
-/// whether the exclusive or, made in two ways, is one function.
+/// Whether the operations that commute give one function in both orders of these operands, and the
+/// other one doesn't; and whether the exclusive or, made in two ways, is one function.
 fn keeps_results_apart<R, D: Diagrams<R>>(
     rt: &R,
     d: &mut D,
@@ -372,8 +374,9 @@ fn keeps_parities_apart<R, D: Diagrams<R>>(rt: &R, d: &mut D) -> Result<bool, St
     apart
 }
 
-/// The halves of two parities meet again on each level: an apply that finds no kept result makes some 2^39 steps, and
-/// one that finds the result of another operation, or of operands in the wrong order, answers another function.
+/// The halves of two parities meet again on each level: an apply that finds no kept result makes
+/// some 2^39 steps, and one that finds the result of another operation, or of operands in the wrong
+/// order, answers another function.
 #[test]
 fn a_kept_result_is_found(rt: HostRuntime) {
     let mut d = Plain::new(rt.alloc(), 40, 10_000).expect(&rt, "memory");

@@ -4,10 +4,12 @@ use eqc_compare::Gate;
 use eqc_pair::Pair;
 use std::sync::atomic::{AtomicU64, Ordering};
 
-/// Where this part of the outputs entered a room that was too small, a larger one mostly holds them all.
+/// Where this part of the outputs entered a room that was too small, a larger one mostly holds them
+/// all.
 const MANY_PART: u64 = 4;
 
-/// Fewer outputs aren't many: of one alone it is known that it didn't fit, and nothing of what would.
+/// Fewer outputs aren't many: of one alone it is known that it didn't fit, and nothing of what
+/// would.
 const FEWEST_MANY: u64 = 8;
 
 /// Counts the outputs that enter, and passes on what is told.

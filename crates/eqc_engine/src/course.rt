@@ -1,5 +1,5 @@
-//! The course of a run: what is tried on a pair, stage after stage. Each begins where the one before left an output open, which it
-//! says by `Stop::NodeLimit`.
+//! The course of a run: what is tried on a pair, stage after stage. Each begins where the one
+//! before left an output open, which it says by `Stop::NodeLimit`.
 //!
 //! | | Stage | Call | What it decides |
 //! |---|---|---|---|
@@ -18,9 +18,10 @@
 //! | 13 | longer searches | `by_search` | the same as 4 |
 //! | 14 | diagrams by all workers once more, where 12 found some outputs equal | `in_room` | the outputs left, where they fit |
 //!
-//! `known_by_structure` has 1, `decide_pair` begins with 2, `behind_first` with 3, and `by_sweeping` goes on from there:
-//! `by_short_rounds` has 3 and 4, `by_sums` 5, `by_one` 7 and 8, `by_long_rounds` 9 to 11, and `by_longer_searches` the others. With
-//! few nodes or without conflicts 11 follows 2, and nothing else does.
+//! `known_by_structure` has 1, `decide_pair` begins with 2, `behind_first` with 3, and
+//! `by_sweeping` goes on from there: `by_short_rounds` has 3 and 4, `by_sums` 5, `by_one` 7 and 8,
+//! `by_long_rounds` 9 to 11, and `by_longer_searches` the others. With few nodes or without
+//! conflicts 11 follows 2, and nothing else does.
 ghost use Rattle.std.specs.Prelude.{◌≡◌, None, length, IfOk, IfErr};
 ghost use Rattle.eqc_compare.specs.Alike.{IsKnown};
 ghost use Rattle.eqc_inside.specs.Inside.{KeepsMarks};
@@ -41,10 +42,12 @@ use eqc_tree::Stop;
 use std::sync::Wait;
 use std::thread::Threads;
 
-/// The fewest nodes with which a run does more than to make diagrams by all its workers. Who allows fewer asks about these.
+/// The fewest nodes with which a run does more than to make diagrams by all its workers. Who allows
+/// fewer asks about these.
 const SWEPT_NODES: u32 = 1_024;
 
-/// This part of the conflicts that the options allow are given to all outputs that a round of sweeping leaves, to find them equal.
+/// This part of the conflicts that the options allow are given to all outputs that a round of
+/// sweeping leaves, to find them equal.
 const FEW_PART: u64 = 20;
 
 /// So often they have as many at most, each time after some were found equal.
@@ -53,7 +56,8 @@ const MOST_TIMES: u32 = 8;
 /// With this part of them all outputs are searched for differences at first.
 const SEARCH_PART: u64 = 5;
 
-/// Longer rounds come before diagrams of one worker where the rounds between left this part fewer nodes.
+/// Longer rounds come before diagrams of one worker where the rounds between left this part fewer
+/// nodes.
 const FRUITFUL: u64 = 8;
 
 /// There are no more rounds of sweeping than so many, whatever they find.
@@ -62,14 +66,17 @@ const MOST_ROUNDS: u32 = 100;
 /// Where a run's comparison is made.
 #[derive(Clone, Copy, PartialEq)]
 enum Room {
-    /// In a store of one thread, which is left as soon as it is full, or as the turns of its operations are spent.
+    /// In a store of one thread, which is left as soon as it is full, or as the turns of its
+    /// operations are spent.
     First,
-    /// In a larger one, which is left in the same way. Where the first one was as large there is nothing to be had from it.
+    /// In a larger one, which is left in the same way. Where the first one was as large there is
+    /// nothing to be had from it.
     Large,
-    /// In a forest of one worker, who takes dead nodes back, which is left as the turns of that are spent.
+    /// In a forest of one worker, who takes dead nodes back, which is left as the turns of that are
+    /// spent.
     One,
-    /// In the forest that the options ask for, by as many workers, which is left as the turns of one of them are spent, and then by one
-    /// worker alone.
+    /// In the forest that the options ask for, by as many workers, which is left as the turns of
+    /// one of them are spent, and then by one worker alone.
     Whole,
 }
 
@@ -134,8 +141,8 @@ fn in_room<R: Threads + Wait + Sync, P: Progress<R> + Sync>(
     }
 }
 
-/// The report by diagrams on one thread, or why it stopped. Most comparisons take less time there than a forest to begin. Few nodes a
-/// forest has as fast, and uses again.
+/// The report by diagrams on one thread, or why it stopped. Most comparisons take less time there
+/// than a forest to begin. Few nodes a forest has as fast, and uses again.
 fn first_diagrams<R: Threads + Wait + Sync, P: Progress<R> + Sync>(
     comparison: &Comparison<'_, R, P>,
     alike: &Alike,
@@ -150,8 +157,8 @@ fn first_diagrams<R: Threads + Wait + Sync, P: Progress<R> + Sync>(
     in_room(comparison, Room::First, alike)
 }
 
-/// The report by searches for differences with so many conflicts, or `NodeLimit` where these don't do, with the difference that was
-/// seen then. The outputs found equal on the way become known.
+/// The report by searches for differences with so many conflicts, or `NodeLimit` where these don't
+/// do, with the difference that was seen then. The outputs found equal on the way become known.
 fn by_search<R: Threads + Wait + Sync, P: Progress<R> + Sync>(
     comparison: &Comparison<'_, R, P>,
     inside: &mut Inside<'_>,
@@ -202,8 +209,8 @@ fn few_conflicts<R, P>(comparison: &Comparison<'_, R, P>) -> Conflicts {
     }
 }
 
-/// Searches for differences of the outputs that are left, with so many conflicts in all. Those for which there is none become
-/// known: whether there are any.
+/// Searches for differences of the outputs that are left, with so many conflicts in all. Those for
+/// which there is none become known: whether there are any.
 fn ask_outputs<R: Threads + Sync, P: Progress<R>>(
     comparison: &Comparison<'_, R, P>,
     inside: &mut Inside<'_>,
@@ -225,8 +232,8 @@ fn ask_outputs<R: Threads + Sync, P: Progress<R>>(
     inside.ask_outputs(rt, alloc, alike, conflicts, watch)
 }
 
-/// Asks about the outputs that a round of sweeping left, with few conflicts, and again as long as some are found equal: what was found
-/// equal below them often makes them easy.
+/// Asks about the outputs that a round of sweeping left, with few conflicts, and again as long as
+/// some are found equal: what was found equal below them often makes them easy.
 fn ask_while_found<R: Threads + Sync, P: Progress<R>>(
     comparison: &Comparison<'_, R, P>,
     inside: &mut Inside<'_>,
@@ -250,7 +257,8 @@ fn ask_while_found<R: Threads + Sync, P: Progress<R>>(
     }
 }
 
-/// Sweeps what is left in further rounds, as long as these find something and outputs are left, which are asked about after each round.
+/// Sweeps what is left in further rounds, as long as these find something and outputs are left,
+/// which are asked about after each round.
 fn sweep_more<R: Threads + Wait + Sync, P: Progress<R> + Sync>(
     comparison: &Comparison<'_, R, P>,
     inside: &mut Inside<'_>,
@@ -289,8 +297,8 @@ fn sweep_more<R: Threads + Wait + Sync, P: Progress<R> + Sync>(
     }
 }
 
-/// The report over what short rounds of sweeping find equal, which becomes known: by short searches where simulation saw an output
-/// differ.
+/// The report over what short rounds of sweeping find equal, which becomes known: by short searches
+/// where simulation saw an output differ.
 fn by_short_rounds<R: Threads + Wait + Sync, P: Progress<R> + Sync>(
     comparison: &Comparison<'_, R, P>,
     inside: &mut Inside<'_>,
@@ -351,8 +359,9 @@ fn by_sums<R: Threads + Wait + Sync, P: Progress<R> + Sync>(
     }
 }
 
-/// Sweeps in rounds that take no longer than diagrams of one worker, where there are few inputs. Answers whether outputs are left of so
-/// many fewer nodes that longer rounds come before such diagrams.
+/// Sweeps in rounds that take no longer than diagrams of one worker, where there are few inputs.
+/// Answers whether outputs are left of so many fewer nodes that longer rounds come before such
+/// diagrams.
 fn rounds_between<R: Threads + Wait + Sync, P: Progress<R> + Sync>(
     comparison: &Comparison<'_, R, P>,
     inside: &mut Inside<'_>,
@@ -376,7 +385,8 @@ fn rounds_between<R: Threads + Wait + Sync, P: Progress<R> + Sync>(
     before - before / FRUITFUL > after && known_outcome(alloc, pair, &alike.equal).is_none()
 }
 
-/// The report over what long rounds of sweeping find equal, which becomes known: by short searches, and by diagrams of all workers.
+/// The report over what long rounds of sweeping find equal, which becomes known: by short searches,
+/// and by diagrams of all workers.
 fn by_long_rounds<R: Threads + Wait + Sync, P: Progress<R> + Sync>(
     comparison: &Comparison<'_, R, P>,
     inside: &mut Inside<'_>,
@@ -402,7 +412,8 @@ fn by_long_rounds<R: Threads + Wait + Sync, P: Progress<R> + Sync>(
     }
 }
 
-/// The report by longer searches. Where one that refutes finds some outputs equal, diagrams are tried for the others once more.
+/// The report by longer searches. Where one that refutes finds some outputs equal, diagrams are
+/// tried for the others once more.
 fn by_longer_searches<R: Threads + Wait + Sync, P: Progress<R> + Sync>(
     comparison: &Comparison<'_, R, P>,
     inside: &mut Inside<'_>,
@@ -430,8 +441,8 @@ fn by_longer_searches<R: Threads + Wait + Sync, P: Progress<R> + Sync>(
     }
 }
 
-/// The report over what sweeping finds equal, which becomes known: by short rounds, by words that add up the same, in a larger room, by
-/// one worker, by long rounds, and by longer searches.
+/// The report over what sweeping finds equal, which becomes known: by short rounds, by words that
+/// add up the same, in a larger room, by one worker, by long rounds, and by longer searches.
 fn by_sweeping<R: Threads + Wait + Sync, P: Progress<R> + Sync>(
     comparison: &Comparison<'_, R, P>,
     inside: &mut Inside<'_>,
@@ -480,8 +491,8 @@ fn by_sweeping<R: Threads + Wait + Sync, P: Progress<R> + Sync>(
     by_longer_searches(comparison, inside, alike, left)
 }
 
-/// The report where the first room didn't do: by the diagrams of all workers alone where there are few nodes or no conflicts, and
-/// else by all that there is.
+/// The report where the first room didn't do: by the diagrams of all workers alone where there are
+/// few nodes or no conflicts, and else by all that there is.
 fn behind_first<R: Threads + Wait + Sync, P: Progress<R> + Sync>(
     comparison: &Comparison<'_, R, P>,
     alike: &mut Alike,
@@ -538,8 +549,9 @@ fn by_stages<R: Threads + Wait + Sync, P: Progress<R> + Sync>(
     }
 }
 
-/// What is known of a pair at first: outputs whose two signals have one structure are equal, and one diagram is built for all signals of
-/// one structure, of both netlists. Nothing where memory for that is refused. The watch is told of the stage.
+/// What is known of a pair at first: outputs whose two signals have one structure are equal, and
+/// one diagram is built for all signals of one structure, of both netlists. Nothing where memory
+/// for that is refused. The watch is told of the stage.
 pub fn known_by_structure<R, P: Progress<R>>(comparison: &Comparison<'_, R, P>) -> Alike
     ensures { IsKnown comparison.now.pair.now result }
 {
@@ -547,17 +559,20 @@ pub fn known_by_structure<R, P: Progress<R>>(comparison: &Comparison<'_, R, P>) 
     alike_or_nothing(comparison.alloc, comparison.pair)
 }
 
-/// Decides a pair for a run, which does more than `check`. Outputs that are known to be equal are not compared; `alike` has what is
-/// known of the pair, and gets what is found. Where diagrams on one thread don't decide it, signals become known that are proved
-/// equal inside the netlists, and outputs are searched for differences before all workers make diagrams, and once more where that
-/// doesn't do. Where memory for any of that is refused, the run goes on without it. Where there is an assumption, whether it allows an
-/// assignment is asked of diagrams on one thread all the same.
+/// Decides a pair for a run, which does more than `check`. Outputs that are known to be equal are
+/// not compared; `alike` has what is known of the pair, and gets what is found. Where diagrams on
+/// one thread don't decide it, signals become known that are proved equal inside the netlists, and
+/// outputs are searched for differences before all workers make diagrams, and once more where that
+/// doesn't do. Where memory for any of that is refused, the run goes on without it. Where there is
+/// an assumption, whether it allows an assignment is asked of diagrams on one thread all the same.
 ///
-/// The options are in their ranges. With 0 conflicts, only diagrams are made; with fewer than 1,024 nodes, only by all workers. The
-/// call may wait, as `check` may. The watch is told of each stage as it begins, and how far it is; of each comparison by diagrams
-/// it is told before that begins. Where it is given up, the outputs that are left, which aren't known to be equal then, are told in
-/// `left`, with what was seen of one that differs. The errors are `NodeLimit` (71), also where operations took too many
-/// turns, `Memory` (72), `References` (73), and `Threads` (74) where a thread could not be started.
+/// The options are in their ranges. With 0 conflicts, only diagrams are made; with fewer than 1,024
+/// nodes, only by all workers. The call may wait, as `check` may. The watch is told of each stage
+/// as it begins, and how far it is; of each comparison by diagrams it is told before that begins.
+/// Where it is given up, the outputs that are left, which aren't known to be equal then, are told
+/// in `left`, with what was seen of one that differs. The errors are `NodeLimit` (71), also where
+/// operations took too many turns, `Memory` (72), `References` (73), and `Threads` (74) where a
+/// thread could not be started.
 pub fn decide_pair<R: Threads + Wait + Sync, P: Progress<R> + Sync>(
     comparison: &Comparison<'_, R, P>,
     alike: &mut Alike,

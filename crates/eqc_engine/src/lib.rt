@@ -1,11 +1,14 @@
-//! What decides a pair: the stages of a run, one after the other, and the calls that make diagrams alone. What makes a pair stands in
-//! `eqc_pair`, what a stage does in `eqc_compare`, `eqc_members` and `eqc_inside`, and what the answer is in `eqc_report`.
+//! What decides a pair: the stages of a run, one after the other, and the calls that make diagrams
+//! alone. What makes a pair stands in `eqc_pair`, what a stage does in `eqc_compare`, `eqc_members`
+//! and `eqc_inside`, and what the answer is in `eqc_report`.
 //!
-//! What the report has to be is said in `specs/Report.antt` and `specs/PairReport.antt` of `eqc_report`. Read the modules in this order:
+//! What the report has to be is said in `specs/Report.antt` and `specs/PairReport.antt` of
+//! `eqc_report`. Read the modules in this order:
 //!
 //! - `course`, `known_by_structure` and `decide_pair`: the stages of a run in their order
-//! - `workers`, diagrams in rooms, by one thread and by several, of a run and of pairs without one; `watched`, how those of a run
-//!   tell of their nodes; `begun`, how far one came; `plain`, a pair's report by one thread
+//! - `workers`, diagrams in rooms, by one thread and by several, of a run and of pairs without one;
+//!   `watched`, how those of a run tell of their nodes; `begun`, how far one came; `plain`, a
+//!   pair's report by one thread
 #![tactic(auto, using(eqc_tree::proofs::HoldingLemmas::counts_itself))]
 
 mod begun;

@@ -30,9 +30,10 @@ fn compare_plain<R>(
     compare_outputs(alloc, rt, &mut d, pair, every)
 }
 
-/// Compares a pair on this thread with a store of `nodes` nodes, 1 to 1,048,574: the report, or why it stopped:
-/// `NodeLimit` (71), `Memory` (72) or `References` (73). Whether the assumption, if there is one, allows an
-/// assignment is asked first. With `every` each output that differs is told, and else the first alone.
+/// Compares a pair on this thread with a store of `nodes` nodes, 1 to 1,048,574: the report, or why
+/// it stopped: `NodeLimit`, `Memory` or `References`. Whether the assumption, if
+/// there is one, allows an assignment is asked first. With `every` each output that differs is
+/// told, and else the first alone.
 pub fn check_plain<R>(
     rt: &R,
     alloc: Global,

@@ -39,16 +39,19 @@ fn check_known<R: Threads + Wait + Sync, D: Diagrams<R> + Send + Drop, G: Gate<R
     found_report(alloc, pair, every, outcome)
 }
 
-/// Compares a pair by these members, of which each runs in a thread of its own: the report, or why it stopped.
+/// Compares a pair by these members, of which each runs in a thread of its own: the report, or why
+/// it stopped.
 ///
-/// There is at least one member, and each has at least as many variables as the pair has inputs; they are consumed. The first
-/// is asked whether the assumption, if there is one, allows an assignment, before any output is drawn. The gate is told of each
-/// comparison before it begins. With `every` each output that differs is told. Else the first alone is, and a member that has
-/// found a difference compares no later output. One that has drawn its last helps the others. The call may wait, since it waits
-/// for all members, and for the gate.
+/// There is at least one member, and each has at least as many variables as the pair has inputs;
+/// they are consumed. The first is asked whether the assumption, if there is one, allows an
+/// assignment, before any output is drawn. The gate is told of each comparison before it begins.
+/// With `every` each output that differs is told. Else the first alone is, and a member that has
+/// found a difference compares no later output. One that has drawn its last helps the others. The
+/// call may wait, since it waits for all members, and for the gate.
 ///
-/// The errors are those of the members' diagrams, `NodeLimit` (71), `Memory` (72) and `References` (73); `Memory` also where memory is
-/// refused; and `Threads` (74) where a thread could not be started. Where several came it is one of them.
+/// The errors are those of the members' diagrams, `NodeLimit`, `Memory` and `References`; `Memory`
+/// also where memory is refused; and `Threads` where a thread could not be started. Where several
+/// came it is one of them.
 pub fn check_with<R: Threads + Wait + Sync, D: Diagrams<R> + Send + Drop, G: Gate<R> + Sync>(
     rt: &R,
     alloc: Global,
@@ -69,19 +72,23 @@ pub fn check_with<R: Threads + Wait + Sync, D: Diagrams<R> + Send + Drop, G: Gat
     check_known(rt, alloc, pair, request, members, gate)
 }
 
-/// The most nodes of the store of one thread in which a run's comparison begins, but for a pair of some inputs and few outputs. None is laid
-/// out before it is needed, and none is taken back: most comparisons end there before a forest would have begun.
+/// The most nodes of the store of one thread in which a run's comparison begins, but for a pair of
+/// some inputs and few outputs. None is laid out before it is needed, and none is taken back: most
+/// comparisons end there before a forest would have begun.
 const FIRST_NODES: u32 = 524_288;
 
-/// Who allows as many nodes for all workers, which is the usual number, gets them in the larger room on one thread, too.
+/// Who allows as many nodes for all workers, which is the usual number, gets them in the larger
+/// room on one thread, too.
 const USUAL_NODES: u32 = 65_536;
 
-/// How many turns operations in it may take beyond the free ones: what isn't decided by then is better tried in other ways first.
+/// How many turns operations in it may take beyond the free ones: what isn't decided by then is
+/// better tried in other ways first.
 const FIRST_TURNS: u64 = 1_048_576;
 
-/// How many a worker's may take in the forest that the options ask for, and how many more for each of its nodes: an operation on
-/// two large diagrams may take as many as the product of their sizes, also where its result is small and the forest never full.
-/// A run that can't be decided ends then all the same.
+/// How many a worker's may take in the forest that the options ask for, and how many more for each
+/// of its nodes: an operation on two large diagrams may take as many as the product of their sizes,
+/// also where its result is small and the forest never full. A run that can't be decided ends then
+/// all the same.
 const TURNS: u64 = 8_388_608;
 
 const TURNS_PER_NODE: u64 = 8;
@@ -101,7 +108,8 @@ pub struct Comparison<'x, R, P> {
 /// Diagrams over so few inputs mostly fit into the larger room, which is then the first one.
 const FEW_INPUTS: usize = 20;
 
-/// So few outputs may have more nodes in the larger room: of many outputs those that fill it mostly are some of several that would.
+/// So few outputs may have more nodes in the larger room: of many outputs those that fill it mostly
+/// are some of several that would.
 const FEW_OUTPUTS: usize = 4;
 
 /// Over so few, operations in the larger room may take so many turns.
@@ -109,16 +117,17 @@ const SOME_INPUTS: usize = 40;
 
 const LARGE_TURNS: u64 = 8_388_608;
 
-/// The first room of a pair of no more than these inputs has so many nodes at least: those that the usual number doesn't hold take less
-/// time than a round of sweeping.
+/// The first room of a pair of no more than these inputs has so many nodes at least: those that the
+/// usual number doesn't hold take less time than a round of sweeping.
 const SOME_NODES: u32 = 131_072;
 
-/// Over so many inputs diagrams are thin where they fit at all, and each operation makes them anew: one worker goes on behind the larger
-/// room, which such diagrams fill with dead nodes.
+/// Over so many inputs diagrams are thin where they fit at all, and each operation makes them anew:
+/// one worker goes on behind the larger room, which such diagrams fill with dead nodes.
 const MANY_INPUTS: usize = 400;
 
-/// The most nodes that there can be: in the larger room of a pair of some inputs and few outputs, and in the forest in which one worker goes
-/// on where that is full of dead ones. For a pair of many inputs that forest has so many as stay in the caches of a processor.
+/// The most nodes that there can be: in the larger room of a pair of some inputs and few outputs,
+/// and in the forest in which one worker goes on where that is full of dead ones. For a pair of
+/// many inputs that forest has so many as stay in the caches of a processor.
 const MOST_NODES: u32 = 1_048_574;
 
 const THIN_NODES: u32 = 65_536;
@@ -126,7 +135,8 @@ const THIN_NODES: u32 = 65_536;
 /// How many turns it may take there.
 const ALONE_TURNS: u64 = 16_777_216;
 
-/// The least nodes of the first room for a pair of so many inputs, where the options allow the usual number.
+/// The least nodes of the first room for a pair of so many inputs, where the options allow the
+/// usual number.
 fn least_nodes(inputs: usize) -> u32
     ensures { 1 ≤ result }
 {
@@ -139,8 +149,8 @@ fn least_nodes(inputs: usize) -> u32
     }
 }
 
-/// The nodes of the largest room on one thread. What few outputs over few inputs need mostly fits there, and is seldom found sooner in
-/// another way.
+/// The nodes of the largest room on one thread. What few outputs over few inputs need mostly fits
+/// there, and is seldom found sooner in another way.
 fn largest_nodes(pair: &Pair<'_>) -> u32
     ensures some { 1 ≤ result }
     ensures most { result ≤ 1048574 }
@@ -152,8 +162,8 @@ fn largest_nodes(pair: &Pair<'_>) -> u32
     }
 }
 
-/// The nodes of the first room: as many as the options allow, but more for a pair of few inputs. Who allows fewer than is usual gets no
-/// more than that.
+/// The nodes of the first room: as many as the options allow, but more for a pair of few inputs.
+/// Who allows fewer than is usual gets no more than that.
 fn first_nodes(pair: &Pair<'_>, options: &Options) -> u32
     requires { options_code options.now ≡ None }
     ensures some { 1 ≤ result }
@@ -185,7 +195,8 @@ fn has_many_inputs(pair: &Pair<'_>) -> bool {
     pair.first().inputs().len() >= MANY_INPUTS
 }
 
-/// Whether there is a larger room than the first one was: not for who allows fewer nodes than is usual.
+/// Whether there is a larger room than the first one was: not for who allows fewer nodes than is
+/// usual.
 pub(crate) fn has_large_room(pair: &Pair<'_>, options: &Options) -> bool
     requires { options_code options.now ≡ None }
     ensures { IsTrue result → 65536 ≤ options.now.nodes }
@@ -193,15 +204,16 @@ pub(crate) fn has_large_room(pair: &Pair<'_>, options: &Options) -> bool
     options.nodes >= USUAL_NODES && first_nodes(pair, options) < largest_nodes(pair)
 }
 
-/// Whether one worker goes on alone behind that: not for who allows fewer nodes than is usual. Pairs of real flows whose diagrams don't
-/// fit mostly have neither few inputs nor very many.
+/// Whether one worker goes on alone behind that: not for who allows fewer nodes than is usual.
+/// Pairs of real flows whose diagrams don't fit mostly have neither few inputs nor very many.
 pub(crate) fn goes_on_alone(pair: &Pair<'_>, options: &Options) -> bool
     ensures { IsTrue result → 65536 ≤ options.now.nodes }
 {
     options.nodes >= USUAL_NODES && (has_some_inputs(pair) || has_many_inputs(pair))
 }
 
-/// The store of a room on one thread, with a variable for each input of a pair. It has no more nodes than this.
+/// The store of a room on one thread, with a variable for each input of a pair. It has no more
+/// nodes than this.
 fn first_store(alloc: Global, pair: &Pair<'_>, nodes: u32, turns: u64) -> Result<Plain, Stop>
     requires { 1 ≤ nodes }
     ensures nodes { IfOk result (λ p. p.store.limit ≤ nodes) }
@@ -214,8 +226,9 @@ fn first_store(alloc: Global, pair: &Pair<'_>, nodes: u32, turns: u64) -> Result
     Plain::with_turns(alloc, inputs, nodes, Some(turns))
 }
 
-/// How many of so many workers are needed where they share no operations: as many as there are outputs to compare. Who draws none
-/// does nothing, and for its sake the others would put results into the shared cells.
+/// How many of so many workers are needed where they share no operations: as many as there are
+/// outputs to compare. Who draws none does nothing, and for its sake the others would put results
+/// into the shared cells.
 fn needed_workers(pair: &Pair<'_>, equal: &[bool], workers: u32) -> u32
     requires equal { AreEqual pair.now equal.now }
     requires some { 1 ≤ workers }
@@ -231,7 +244,8 @@ fn needed_workers(pair: &Pair<'_>, equal: &[bool], workers: u32) -> u32
     open.max(1).min(workers)
 }
 
-/// The options without the workers that aren't needed for a pair of which these outputs are known to be equal.
+/// The options without the workers that aren't needed for a pair of which these outputs are known
+/// to be equal.
 fn needed_options(pair: &Pair<'_>, equal: &[bool], options: &Options) -> Options
     requires equal { AreEqual pair.now equal.now }
     requires options { options_code options.now ≡ None }
@@ -247,8 +261,9 @@ fn needed_options(pair: &Pair<'_>, equal: &[bool], options: &Options) -> Options
     }
 }
 
-/// The team of workers that the options ask for, with a variable for each input of a pair: they share one forest, and as many
-/// levels of an operation as there are forks, and each of them may take so many turns.
+/// The team of workers that the options ask for, with a variable for each input of a pair: they
+/// share one forest, and as many levels of an operation as there are forks, and each of them may
+/// take so many turns.
 fn team_for(
     alloc: Global,
     pair: &Pair<'_>,
@@ -273,9 +288,10 @@ fn team_for(
     team_with(alloc, inputs, nodes, cells, workers, forks, allowance)
 }
 
-/// The report by diagrams on this thread, in a store of so many nodes at most, where this is known of the pair, or why it stopped.
-/// Where the options allow fewer nodes than is usual it has no more than they do. A store that is full is left at once: what was
-/// given back there makes no room. The gate is told of each comparison, and the watch of the nodes in use behind each operation.
+/// The report by diagrams on this thread, in a store of so many nodes at most, where this is known
+/// of the pair, or why it stopped. Where the options allow fewer nodes than is usual it has no more
+/// than they do. A store that is full is left at once: what was given back there makes no room. The
+/// gate is told of each comparison, and the watch of the nodes in use behind each operation.
 fn check_first<R, P: Progress<R>, G: Gate<R>>(
     comparison: &Comparison<'_, R, P>,
     alike: Alike,
@@ -308,8 +324,9 @@ fn check_first<R, P: Progress<R>, G: Gate<R>>(
     found_report(alloc, pair, every, outcome)
 }
 
-/// How many turns each worker of a team may take. Workers that share operations take them for one another, so all of them together
-/// may take twice what one may: else a run that can't be decided would take as many times longer as there are workers.
+/// How many turns each worker of a team may take. Workers that share operations take them for one
+/// another, so all of them together may take twice what one may: else a run that can't be decided
+/// would take as many times longer as there are workers.
 fn turns_for(options: &Options) -> u64
     requires { options_code options.now ≡ None }
 {
@@ -321,8 +338,9 @@ fn turns_for(options: &Options) -> u64
     }
 }
 
-/// The report by a team of as many workers as these options say, of which each may take so many turns, where this is known of the
-/// pair, or why it stopped. The watch is told as in the first room.
+/// The report by a team of as many workers as these options say, of which each may take so many
+/// turns, where this is known of the pair, or why it stopped. The watch is told as in the first
+/// room.
 fn check_team<R: Threads + Wait + Sync, P: Progress<R> + Sync>(
     comparison: &Comparison<'_, R, P>,
     alike: Alike,
@@ -367,8 +385,9 @@ fn alone_options(options: &Options, nodes: u32) -> Options
     }
 }
 
-/// The report by one worker in a forest of so many nodes, where this is known of the pair, or why it stopped. Dead
-/// nodes are taken back there, so it goes on where a store of one thread is full of them.
+/// The report by one worker in a forest of so many nodes, where this is known of the pair, or why
+/// it stopped. Dead nodes are taken back there, so it goes on where a store of one thread is full
+/// of them.
 fn check_alone<R: Threads + Wait + Sync, P: Progress<R> + Sync>(
     comparison: &Comparison<'_, R, P>,
     alike: Alike,
@@ -419,9 +438,10 @@ fn is_full(report: &Result<Report, Stop>) -> bool {
     matches!(report, Err(Stop::NodeLimit))
 }
 
-/// The report by the team that the options ask for, without workers that aren't needed, where this is known of the pair, or why it
-/// stopped. It is given up as the turns of one of its workers are spent. Workers that share a store have diagrams of their own in it, so
-/// where it is full one worker has it alone: what one decides several decide as well.
+/// The report by the team that the options ask for, without workers that aren't needed, where this
+/// is known of the pair, or why it stopped. It is given up as the turns of one of its workers are
+/// spent. Workers that share a store have diagrams of their own in it, so where it is full one
+/// worker has it alone: what one decides several decide as well.
 pub(crate) fn check_by_team<R: Threads + Wait + Sync, P: Progress<R> + Sync>(
     comparison: &Comparison<'_, R, P>,
     alike: &Alike,
@@ -446,9 +466,10 @@ pub(crate) fn check_by_team<R: Threads + Wait + Sync, P: Progress<R> + Sync>(
     check_team(comparison, again, &alone, turns_for(&alone))
 }
 
-/// The report by diagrams in the first room, where this is known of the pair, or why it stopped. Where there are very many inputs, and many
-/// outputs began there before it was full, it is by those in the larger room, if there is one. With fewer inputs what has many such
-/// outputs may be a product, of which the others fit into no room.
+/// The report by diagrams in the first room, where this is known of the pair, or why it stopped.
+/// Where there are very many inputs, and many outputs began there before it was full, it is by
+/// those in the larger room, if there is one. With fewer inputs what has many such outputs may be a
+/// product, of which the others fit into no room.
 pub(crate) fn check_in_first<R, P: Progress<R>>(
     comparison: &Comparison<'_, R, P>,
     alike: &Alike,
@@ -475,7 +496,8 @@ pub(crate) fn check_in_first<R, P: Progress<R>>(
     report
 }
 
-/// The report by diagrams of one worker alone, who takes dead nodes back, where this is known of the pair, or why it stopped.
+/// The report by diagrams of one worker alone, who takes dead nodes back, where this is known of
+/// the pair, or why it stopped.
 pub(crate) fn check_by_one<R: Threads + Wait + Sync, P: Progress<R> + Sync>(
     comparison: &Comparison<'_, R, P>,
     alike: &Alike,
@@ -491,13 +513,15 @@ pub(crate) fn check_by_one<R: Threads + Wait + Sync, P: Progress<R> + Sync>(
     check_alone(comparison, again, alone_nodes(comparison.pair))
 }
 
-/// Compares a pair by as many workers as the options say, each in a thread of its own: they share one forest of `nodes` nodes
-/// and one operation cache of `cells` cells. In the first `forks` levels of an operation one half is offered to members that
-/// have nothing to do. Gives the report, or why it stopped.
+/// Compares a pair by as many workers as the options say, each in a thread of its own: they share
+/// one forest of `nodes` nodes and one operation cache of `cells` cells. In the first `forks`
+/// levels of an operation one half is offered to members that have nothing to do. Gives the report,
+/// or why it stopped.
 ///
-/// The options are in their ranges. The gate is told of each comparison before it begins. The call may wait, as `check_with`
-/// may. The errors are `NodeLimit` (71), `Memory` (72), `References` (73), and `Threads` (74) where a thread could not be
-/// started. It takes as long as it needs: only a run is given up where its operations take too many turns.
+/// The options are in their ranges. The gate is told of each comparison before it begins. The call
+/// may wait, as `check_with` may. The errors are `NodeLimit` (71), `Memory` (72), `References`
+/// (73), and `Threads` where a thread could not be started. It takes as long as it needs: only
+/// a run is given up where its operations take too many turns.
 pub fn check<R: Threads + Wait + Sync, G: Gate<R> + Sync>(
     rt: &R,
     alloc: Global,

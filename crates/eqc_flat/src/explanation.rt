@@ -1,4 +1,5 @@
-//! What is at fault in a refused hierarchy: it is flattened once more, and then searched for what its rule is about.
+//! What is at fault in a refused hierarchy: it is flattened once more, and then searched for what
+//! its rule is about.
 ghost use Rattle.std.specs.Prelude.{◌≡◌, ◌<◌, length, IfOk, Some};
 ghost use Rattle.std.specs.Option.{option_map};
 ghost use Rattle.eqc_hierarchy.specs.Codes.{flat_code};
@@ -18,8 +19,8 @@ use eqc_hierarchy::{
 };
 use std::alloc::{AllocError, Global};
 
-/// The rule by which the hierarchy below model `top` is refused, with this limit of inputs, or none where it is accepted.
-/// Fails where memory is refused.
+/// The rule by which the hierarchy below model `top` is refused, with this limit of inputs, or none
+/// where it is accepted. Fails where memory is refused.
 fn refusal(
     alloc: Global,
     library: &Library,
@@ -38,7 +39,8 @@ fn refusal(
     Ok(Some(fault.rule()))
 }
 
-/// What is at fault in a hierarchy that is refused by a rule, with this limit of inputs. Fails where memory is refused.
+/// What is at fault in a hierarchy that is refused by a rule, with this limit of inputs. Fails
+/// where memory is refused.
 fn finding(
     alloc: Global,
     library: &Library,
@@ -79,9 +81,10 @@ fn finding(
     }
 }
 
-/// What is at fault in the hierarchy below model `top` of a library, which is below the number of models, for a reader of
-/// a refusal: it flattens once more, with this limit of inputs, and then goes through the hierarchy for what the code is
-/// about. None where flattening accepts the hierarchy. Fails where memory is refused.
+/// What is at fault in the hierarchy below model `top` of a library, which is below the number of
+/// models, for a reader of a refusal: it flattens once more, with this limit of inputs, and then
+/// goes through the hierarchy for what the code is about. None where flattening accepts the
+/// hierarchy. Fails where memory is refused.
 pub fn explain(
     alloc: Global,
     library: &Library,

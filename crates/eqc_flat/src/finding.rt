@@ -1,4 +1,5 @@
-//! What a refusal of a hierarchy is about: the instance, models, signals or number at fault, by the rule that it breaks.
+//! What a refusal of a hierarchy is about: the instance, models, signals or number at fault, by the
+//! rule that it breaks.
 pub(crate) mod circle;
 pub(crate) mod circle_finding;
 pub(crate) mod driver_findings;
@@ -13,8 +14,8 @@ use eqc_hierarchy::{FoundFormal, FoundInstance};
 pub enum Finding<'a> {
     /// 21: an instance of a model that isn't in the library.
     NoSuchModel(FoundInstance<'a>),
-    /// 22: the main model and further models, each the model of an instance in the one before it, up to one that stands
-    /// before too.
+    /// 22: the main model and further models, each the model of an instance in the one before it,
+    /// up to one that stands before too.
     Recursion(Vec<usize>),
     /// 23: a pair's formal that is neither input nor output of the instance's model.
     UnknownFormal(FoundFormal<'a>),
@@ -28,7 +29,8 @@ pub enum Finding<'a> {
     Undriven(HierarchicalName<'a>),
     /// 28: signals of which each depends on the next one and the last on the first.
     Circular(Circle<'a>),
-    /// 29: the number of signals and instances together, or none where it is over 2^64 - 1, and how many there may be.
+    /// 29: the number of signals and instances together, or none where it is over 2^64 - 1, and how
+    /// many there may be.
     TooLarge { size: Option<usize>, limit: usize },
     /// 30: the number of the main model's inputs, and how many there may be.
     ManyInputs { inputs: usize, limit: usize },

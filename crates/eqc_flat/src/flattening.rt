@@ -1,4 +1,5 @@
-//! Flattening: from a library and its main model to a flat netlist, or to the code of the hierarchy's first fault.
+//! Flattening: from a library and its main model to a flat netlist, or to the code of the
+//! hierarchy's first fault.
 ghost use Rattle.std.specs.Prelude.{◌≡◌, ◌⊎◌, ℕ, ◌<◌, ◌≤◌, false, length, map, slice_index_or, None, Some, IfOk, IfErr};
 ghost use Rattle.eqc_netlist.specs.Names.{has_twice};
 ghost use Rattle.eqc_hierarchy.specs.Hierarchy.{model};
@@ -25,7 +26,8 @@ use std::alloc::{AllocError, Global};
 /// How many inputs a main model may have where nothing else is asked for.
 pub const DEFAULT_INPUTS: u16 = 2_048;
 
-/// The main model's outputs as flat signals, and each signal with its instance and name. Fails where memory is refused.
+/// The main model's outputs as flat signals, and each signal with its instance and name. Fails
+/// where memory is refused.
 fn listed<'a>(
     alloc: Global,
     hierarchy: &Hierarchy<'_, 'a>,
@@ -52,7 +54,8 @@ fn main_ports<'a>(hierarchy: &Hierarchy<'_, 'a>) -> (&'a [Name], &'a [Name])
     (library.inputs(top), library.outputs(top))
 }
 
-/// The flat netlist of a hierarchy with these rows, drivers and order. Fails where memory is refused.
+/// The flat netlist of a hierarchy with these rows, drivers and order. Fails where memory is
+/// refused.
 fn put_together<'a>(
     alloc: Global,
     hierarchy: Hierarchy<'_, 'a>,
@@ -84,8 +87,9 @@ fn put_together<'a>(
     ))
 }
 
-/// The drivers of a hierarchy's signals and an order of them, or code 26 for a signal that is driven twice, 27 for one that
-/// nothing drives, 28 for one that depends on itself. 72 where memory is refused.
+/// The drivers of a hierarchy's signals and an order of them, or code 26 for a signal that is
+/// driven twice, 27 for one that nothing drives, 28 for one that depends on itself. 72 where memory
+/// is refused.
 fn ordered_drivers(
     alloc: Global,
     hierarchy: &Hierarchy<'_, '_>,
@@ -108,8 +112,8 @@ fn ordered_drivers(
     Ok((drivers, steps))
 }
 
-/// The rows of all covers, and the drivers of a hierarchy's signals with an order of them, or a code from 26 to 28. 72 where
-/// memory is refused.
+/// The rows of all covers, and the drivers of a hierarchy's signals with an order of them, or a
+/// code from 26 to 28. 72 where memory is refused.
 fn driven_in_order<'a>(
     alloc: Global,
     library: &'a Library,
@@ -130,7 +134,8 @@ fn driven_in_order<'a>(
     }
 }
 
-/// The flat netlist of a hierarchy with these places of columns, or a code from 26 to 28. 72 where memory is refused.
+/// The flat netlist of a hierarchy with these places of columns, or a code from 26 to 28. 72 where
+/// memory is refused.
 fn netlist<'a>(
     alloc: Global,
     library: &'a Library,
@@ -152,8 +157,8 @@ fn netlist<'a>(
     Ok(flat)
 }
 
-/// The models that call one another in a library, where none that model `top` reaches is at fault, or a code from 21 to 25.
-/// 72 where memory is refused.
+/// The models that call one another in a library, where none that model `top` reaches is at fault,
+/// or a code from 21 to 25. 72 where memory is refused.
 fn calls_below(alloc: Global, library: &Library, top: usize) -> Result<Calls<'_>, Fault>
     requires { top < length library.now }
     ensures calls { IfOk result (λ calls. calls ≡ library.now) }
@@ -167,8 +172,8 @@ fn calls_below(alloc: Global, library: &Library, top: usize) -> Result<Calls<'_>
     }
 }
 
-/// The hierarchy below model `top`, over the names of the library's models, or a code from 21 to 25, or 29. 72 where memory is
-/// refused.
+/// The hierarchy below model `top`, over the names of the library's models, or a code from 21 to
+/// 25, or 29. 72 where memory is refused.
 fn expanded<'n, 'a>(
     alloc: Global,
     library: &'a Library,
@@ -191,8 +196,9 @@ fn expanded<'n, 'a>(
     }
 }
 
-/// The flat netlist of the hierarchy below model `top` of a library, over the names of its models and with these places of the
-/// columns of each cover, or a code from 21 to 30, the last for more inputs than the limit. 72 where memory is refused.
+/// The flat netlist of the hierarchy below model `top` of a library, over the names of its models
+/// and with these places of the columns of each cover, or a code from 21 to 30, the last for more
+/// inputs than the limit. 72 where memory is refused.
 fn flat_below<'a>(
     alloc: Global,
     library: &'a Library,
@@ -219,16 +225,17 @@ fn flat_below<'a>(
     netlist(alloc, library, hierarchy, columns)
 }
 
-/// The flat netlist of the hierarchy below model `top` of a library, which is below the number of models: one list of
-/// signals, each with what drives it, in an order in which each stands after those that it depends on. The main model may
-/// have as many inputs as `limit`.
+/// The flat netlist of the hierarchy below model `top` of a library, which is below the number of
+/// models: one list of signals, each with what drives it, in an order in which each stands after
+/// those that it depends on. The main model may have as many inputs as `limit`.
 ///
-/// Refused by the first of these numbers that applies to all models and instances that the main model reaches: 21 for
-/// an instance of a model that isn't in the text, 22 for a model that reaches itself, 23 for a formal that is neither
-/// input nor output of its model, 24 for a formal twice in an instance, 25 for an input of an instance without a pair,
-/// 29 for more than 1,048,576 flat signals and instances together, 30 for more than `limit` inputs of the main model, 26
-/// for a signal that is driven twice, 27 for one that nothing drives, 28 for one that depends on itself. 72 where memory
-/// is refused.
+/// Refused by the first of these numbers that applies to all models and instances that the main
+/// model reaches: 21 for an instance of a model that isn't in the text, 22 for a model that reaches
+/// itself, 23 for a formal that is neither input nor output of its model, 24 for a formal twice in
+/// an instance, 25 for an input of an instance without a pair, 29 for more than 1,048,576 flat
+/// signals and instances together, 30 for more than `limit` inputs of the main model, 26 for a
+/// signal that is driven twice, 27 for one that nothing drives, 28 for one that depends on itself.
+/// 72 where memory is refused.
 pub fn flatten_within(
     alloc: Global,
     library: &Library,
@@ -244,8 +251,9 @@ pub fn flatten_within(
     flat_below(alloc, library, &naming, columns, top, limit)
 }
 
-/// The flat netlist of the hierarchy below model `top` of a library, which is below the number of models, as
-/// `flatten_within` makes it where the main model may have at most 2,048 inputs: 30 for more of them.
+/// The flat netlist of the hierarchy below model `top` of a library, which is below the number of
+/// models, as `flatten_within` makes it where the main model may have at most 2,048 inputs: 30 for
+/// more of them.
 pub fn flatten(alloc: Global, library: &Library, top: usize) -> Result<Flat<'_>, Fault>
     requires { top < length library.now }
     ensures accepted { IfOk result (λ flat. flat_code library.now top 2048 ≡ None) }
@@ -266,11 +274,13 @@ fn copied(alloc: Global, columns: &[SmallVec<u32, 4>]) -> Result<Vec<SmallVec<u3
     Ok(copies)
 }
 
-/// The flat netlists below two models of a library, each as `flatten_within` makes it with this limit of inputs. It takes less time
-/// than two calls of it, since the names of the library's models are put in order once.
+/// The flat netlists below two models of a library, each as `flatten_within` makes it with this
+/// limit of inputs. It takes less time than two calls of it, since the names of the library's
+/// models are put in order once.
 ///
-/// `first` and `second` are below the number of models, and may be one. The error tells which of the two is refused, the first one where
-/// both are, with the number that `flatten_within` has for it, 21 to 30; 72 where memory is refused.
+/// `first` and `second` are below the number of models, and may be one. The error tells which of
+/// the two is refused, the first one where both are, with the number that `flatten_within` has for
+/// it, 21 to 30; 72 where memory is refused.
 pub fn flatten_two(
     alloc: Global,
     library: &Library,

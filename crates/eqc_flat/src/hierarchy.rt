@@ -1,4 +1,5 @@
-//! The numbers of instances and signals below a main model: the signal of an instance and a name, and the way back.
+//! The numbers of instances and signals below a main model: the signal of an instance and a name,
+//! and the way back.
 ghost use Rattle.std.specs.Prelude.{◌≡◌, ℕ, ◌+◌, ◌<◌, ◌≤◌, ◌++◌, ◌∷◌, [], length, map, true, false, slice_index_or, IfOk, OnOk, MatchOption};
 ghost use Rattle.eqc_netlist.specs.Names.{is_named};
 ghost use Rattle.eqc_hierarchy.specs.Hierarchy.{model, model_at, paths};
@@ -38,8 +39,9 @@ impl<'n, 'a> Model for Hierarchy<'n, 'a> {
 }
 
 impl<'n, 'a> Hierarchy<'n, 'a> {
-    /// The hierarchy below model `top`, whose models never reach themselves, over the names of all models, or none where there
-    /// are too many signals and instances. Fails where memory is refused.
+    /// The hierarchy below model `top`, whose models never reach themselves, over the names of all
+    /// models, or none where there are too many signals and instances. Fails where memory is
+    /// refused.
     pub(crate) fn of(
         alloc: Global,
         calls: Calls<'a>,
@@ -108,7 +110,8 @@ impl<'n, 'a> Hierarchy<'n, 'a> {
         self.instances.models[i]
     }
 
-    /// The first signal of instance `i`, which its other signals follow in the order of the names of its model.
+    /// The first signal of instance `i`, which its other signals follow in the order of the names
+    /// of its model.
     pub(crate) fn first_signal(&self, i: usize) -> usize
         requires { i < length (paths self.now.0 self.now.1) }
         ensures first { result ≡ first_signal self.now.0 self.now.1 i }
@@ -140,8 +143,8 @@ impl<'n, 'a> Hierarchy<'n, 'a> {
         self.signal_of(i, k)
     }
 
-    /// The signal of a name that occurs in the model of instance `i`, which is found at once where it is the output of the
-    /// cover of a number there.
+    /// The signal of a name that occurs in the model of instance `i`, which is found at once where
+    /// it is the output of the cover of a number there.
     pub(crate) fn output_signal(&self, i: usize, name: &[u8], cover: u32) -> usize
         requires instance { i < length (paths self.now.0 self.now.1) }
         requires named { is_named (names_of (model_of self.now.0 self.now.1 i)) name.now ≡ true }
@@ -153,7 +156,8 @@ impl<'n, 'a> Hierarchy<'n, 'a> {
         self.signal_of(i, k)
     }
 
-    /// The signal of a name that occurs in the model of instance `i`, and whether the name is an input of that model.
+    /// The signal of a name that occurs in the model of instance `i`, and whether the name is an
+    /// input of that model.
     pub(crate) fn formal(&self, i: usize, name: &[u8]) -> (usize, bool)
         requires instance { i < length (paths self.now.0 self.now.1) }
         requires named { is_named (names_of (model_of self.now.0 self.now.1 i)) name.now ≡ true }
@@ -177,7 +181,8 @@ impl<'n, 'a> Hierarchy<'n, 'a> {
         (parent as usize, position as usize)
     }
 
-    /// The instances from instance `i` up to the main model, the innermost first. Fails where memory is refused.
+    /// The instances from instance `i` up to the main model, the innermost first. Fails where
+    /// memory is refused.
     fn steps(&self, alloc: Global, i: usize) -> Result<Vec<Step>, AllocError>
         requires { i < length (paths self.now.0 self.now.1) }
         ensures { IfOk result (λ steps. steps.items ≡ steps_of self.now.0 self.now.1 (path_at self.now.0 self.now.1 i)) }

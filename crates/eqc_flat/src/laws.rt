@@ -1,4 +1,5 @@
-//! Laws of the definitions of hierarchies and of values. The functions do nothing: their contracts are the laws.
+//! Laws of the definitions of hierarchies and of values. The functions do nothing: their contracts
+//! are the laws.
 ghost use Rattle.eqc_flat.specs.HierarchyLaws.{SignalsStandOnce, SignalsAreNamesOfInstances, RecursiveWhereReached, CyclicWhereReached};
 ghost use Rattle.eqc_flat.specs.ValueLaws.{ValuesStay, ValuesAreThereForAll, AcceptedHaveValues, ValuesDependOnInputsAlone, CoversDependOnColumnsAlone};
 
@@ -32,19 +33,20 @@ pub fn signals_stand_once()
     ensures { SignalsStandOnce }
 {}
 
-/// Without recursion a signal stands in the list of signals exactly when its path is an instance in whose model its name
-/// occurs.
+/// Without recursion a signal stands in the list of signals exactly when its path is an instance in
+/// whose model its name occurs.
 pub fn signals_are_names_of_instances()
     ensures { SignalsAreNamesOfInstances }
 {}
 
-/// The condition of code 22 holds exactly when the main model is or reaches a model that reaches itself.
+/// The condition of code 22 holds exactly when the main model is or reaches a model that reaches
+/// itself.
 pub fn recursive_where_reached()
     ensures { RecursiveWhereReached }
 {}
 
-/// Where no other code applies, code 28 does exactly when some flat signal depends on itself, by one signal or a chain of
-/// them.
+/// Where no other code applies, code 28 does exactly when some flat signal depends on itself, by
+/// one signal or a chain of them.
 pub fn cyclic_where_reached()
     ensures { CyclicWhereReached }
 {}

@@ -1,16 +1,17 @@
-//! Flat netlists: a library and its main model become one list of numbered signals, each with what drives it, or the first
-//! fault of the hierarchy.
+//! Flat netlists: a library and its main model become one list of numbered signals, each with what
+//! drives it, or the first fault of the hierarchy.
 //!
-//! What a hierarchy means is said in `eqc_hierarchy`, which tells what can be told model by model; what a flat netlist has of
-//! it is said in `specs/Graph.antt` and `specs/Flattened.antt`. Read the modules in this order:
+//! What a hierarchy means is said in `eqc_hierarchy`, which tells what can be told model by model;
+//! what a flat netlist has of it is said in `specs/Graph.antt` and `specs/Flattened.antt`. Read the
+//! modules in this order:
 //!
-//! - `flattening`, the call; `flat`, what it gives, with its `signals` and their order by dependency, `signal_order`; `fault`,
-//!   why it gives none
+//! - `flattening`, the call; `flat`, what it gives, with its `signals` and their order by
+//!   dependency, `signal_order`; `fault`, why it gives none
 //! - `hierarchy`, with its `instances` in a row
-//! - `drivers`, what drives each signal; in it `driver`, how one is shown, and `stored_driver`, how it is kept; `driver_table`,
-//!   how they are found; `row_table`, the rows of covers
-//! - `explanation`, what is at fault, as a `finding`; in it `driver_findings`, told by a `hierarchical_name`, and
-//!   `circle_finding`, told by a `circle`
+//! - `drivers`, what drives each signal; in it `driver`, how one is shown, and `stored_driver`, how
+//!   it is kept; `driver_table`, how they are found; `row_table`, the rows of covers
+//! - `explanation`, what is at fault, as a `finding`; in it `driver_findings`, told by a
+//!   `hierarchical_name`, and `circle_finding`, told by a `circle`
 //! - `evaluation`, values; `laws`, facts about the definitions
 #![tactic(auto)]
 

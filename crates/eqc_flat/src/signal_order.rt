@@ -21,8 +21,8 @@ fn narrow(alloc: Global, numbers: &[usize]) -> Result<Vec<u32>, AllocError>
     Ok(all)
 }
 
-/// A search through all signals with these drivers, and whether it came to its end: it doesn't where a signal depends on
-/// itself. Fails where memory is refused.
+/// A search through all signals with these drivers, and whether it came to its end: it doesn't
+/// where a signal depends on itself. Fails where memory is refused.
 fn search_all(alloc: Global, drivers: &Drivers) -> Result<(bool, Search), AllocError>
     requires few { length drivers.now ≤ 1048576 }
     requires closed { IsClosed (signal_deps drivers.now) (length drivers.now) }
@@ -40,8 +40,8 @@ fn search_all(alloc: Global, drivers: &Drivers) -> Result<(bool, Search), AllocE
     Ok((true, search))
 }
 
-/// An order of the signals with these drivers in which each stands after those that it depends on, or none where one
-/// depends on itself. Fails where memory is refused.
+/// An order of the signals with these drivers in which each stands after those that it depends on,
+/// or none where one depends on itself. Fails where memory is refused.
 pub(crate) fn order_of(alloc: Global, drivers: &Drivers) -> Result<Option<Vec<u32>>, AllocError>
     requires few { length drivers.now ≤ 1048576 }
     requires closed { IsClosed (signal_deps drivers.now) (length drivers.now) }
@@ -58,7 +58,8 @@ pub(crate) fn order_of(alloc: Global, drivers: &Drivers) -> Result<Option<Vec<u3
     Ok(Some(steps))
 }
 
-/// A way into a circle along signals with these drivers, which have no order. Fails where memory is refused.
+/// A way into a circle along signals with these drivers, which have no order. Fails where memory is
+/// refused.
 pub(crate) fn trail_of(alloc: Global, drivers: &Drivers) -> Result<Vec<usize>, AllocError>
     requires few { length drivers.now ≤ 1048576 }
     requires closed { IsClosed (signal_deps drivers.now) (length drivers.now) }

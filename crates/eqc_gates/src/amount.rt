@@ -7,10 +7,12 @@ use eqc_build::{StepDriver, Steps};
 use eqc_cover::table::MOST_COLUMNS;
 use std::alloc::{AllocError, Global};
 
-/// So many rows of a cover of few columns are gone through while a character of a wider cover enters, about.
+/// So many rows of a cover of few columns are gone through while a character of a wider cover
+/// enters, about.
 const TABLE_ROWS: u64 = 8;
 
-/// The characters of a cover's rows, or as many as take the time of the rows of one that has few columns.
+/// The characters of a cover's rows, or as many as take the time of the rows of one that has few
+/// columns.
 fn cover_amount(columns: usize, rows: usize) -> u64 {
     if columns <= MOST_COLUMNS {
         return rows as u64 / TABLE_ROWS;
@@ -18,8 +20,9 @@ fn cover_amount(columns: usize, rows: usize) -> u64 {
     (rows as u64).saturating_mul(columns as u64)
 }
 
-/// About how many characters enter a graph with the marked steps of a pair: those of their covers' rows, for each instance of a model
-/// anew. A cover whose table is known has none. No row is read: it takes time in proportion to the steps.
+/// About how many characters enter a graph with the marked steps of a pair: those of their covers'
+/// rows, for each instance of a model anew. A cover whose table is known has none. No row is read:
+/// it takes time in proportion to the steps.
 fn amount(steps: &Steps<'_>, marks: &[bool]) -> u64 {
     let mut all: u64 = 0;
     for step in 0..steps.len() {
@@ -33,9 +36,11 @@ fn amount(steps: &Steps<'_>, marks: &[bool]) -> u64 {
     all
 }
 
-/// Marks as `needed` gives them, where no more than so many characters enter with the marked steps: those of the rows of covers that
-/// have more than six columns, for each instance of a model anew, and of other covers one for each eight rows, where these aren't
-/// known by their tables. Else no step is marked. It takes time in proportion to what the steps use. Fails where memory is refused.
+/// Marks as `needed` gives them, where no more than so many characters enter with the marked steps:
+/// those of the rows of covers that have more than six columns, for each instance of a model anew,
+/// and of other covers one for each eight rows, where these aren't known by their tables. Else no
+/// step is marked. It takes time in proportion to what the steps use. Fails where memory is
+/// refused.
 pub fn needed_within(
     alloc: Global,
     steps: &Steps<'_>,

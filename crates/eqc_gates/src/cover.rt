@@ -14,8 +14,8 @@ use eqc_netlist::{Rows, is_on_set};
 use eqc_sweep::Sweep;
 use std::alloc::{AllocError, Global};
 
-/// The literals of the columns that have to be true where a row matches: a column or its complement. Fails where memory is
-/// refused.
+/// The literals of the columns that have to be true where a row matches: a column or its
+/// complement. Fails where memory is refused.
 fn asked_for(alloc: Global, columns: &[u32], row: &[u8]) -> Result<Vec<u32>, AllocError>
     ensures { IfOk result (λ asked. AreAskedFor columns.now row.now asked.items) }
 {
@@ -64,8 +64,9 @@ fn no_row_literal(
     all_of(sweep, none)
 }
 
-/// The literal of a cover with these rows (BLIF 1992, logic gates), whose columns have these literals. What is made takes
-/// time and nodes in proportion to the cover's text. Fails where memory is refused, or nodes are too many.
+/// The literal of a cover with these rows (BLIF 1992, logic gates), whose columns have these
+/// literals. What is made takes time and nodes in proportion to the cover's text. Fails where
+/// memory is refused, or nodes are too many.
 pub fn cover_literal(
     alloc: Global,
     sweep: &mut Sweep,

@@ -1,4 +1,5 @@
-//! The literal of a truth table: gates by its cofactors where there are any, else Shannon's expansion.
+//! The literal of a truth table: gates by its cofactors where there are any, else Shannon's
+//! expansion.
 ghost use Rattle.std.specs.Prelude.{ℕ, ◌≤◌, Bool, length, map, IfOk};
 ghost use Rattle.eqc_graph.specs.Graph.{literal_value, Extends};
 ghost use Rattle.eqc_cover.specs.Table.{table_value, DependsOnOpen};
@@ -10,8 +11,9 @@ use eqc_cover::table::{MOST_COLUMNS, best_column, cofactor, is_constant};
 use eqc_sweep::Sweep;
 use std::alloc::AllocError;
 
-/// The literal of a table that depends on no other columns than those that are open. `columns` are their literals, at most
-/// six. A column is closed at each call, so that calls are at most six deep. Fails where memory is refused.
+/// The literal of a table that depends on no other columns than those that are open. `columns` are
+/// their literals, at most six. A column is closed at each call, so that calls are at most six
+/// deep. Fails where memory is refused.
 pub(crate) fn table_literal(
     sweep: &mut Sweep,
     columns: &[u32],

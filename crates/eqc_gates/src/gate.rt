@@ -20,7 +20,8 @@ fn or(sweep: &mut Sweep, x: u32, y: u32) -> Result<u32, AllocError>
     Ok(negated(neither))
 }
 
-/// The literal that has the value of `high` where `x` is true, and that of `low` elsewhere. Fails where memory is refused.
+/// The literal that has the value of `high` where `x` is true, and that of `low` elsewhere. Fails
+/// where memory is refused.
 pub(crate) fn multiplexer(sweep: &mut Sweep, x: u32, high: u32, low: u32) -> Result<u32, AllocError>
     requires x { IsWithin sweep.old x }
     requires high { IsWithin sweep.old high }
@@ -51,8 +52,8 @@ pub(crate) fn multiplexer(sweep: &mut Sweep, x: u32, high: u32, low: u32) -> Res
     or(sweep, first, second)
 }
 
-/// The literal that is true where all of these are, of which there may be many: gates of two in a balanced tree. Fails
-/// where memory is refused.
+/// The literal that is true where all of these are, of which there may be many: gates of two in a
+/// balanced tree. Fails where memory is refused.
 pub(crate) fn all_of(sweep: &mut Sweep, literals: Vec<u32>) -> Result<u32, AllocError>
     requires { AreWithin sweep.old literals.items }
     ensures value { IfOk result (λ l. HasValue sweep.new l (λ a. list_all (literal_value sweep.old a) literals.items)) }

@@ -38,9 +38,10 @@ fn mark_assumed(marks: &mut Vec<bool>, steps: &Steps<'_>)
     }
 }
 
-/// Marks for the steps of a pair: the steps of each output that is wanted, that of the assumption's output, if there is an
-/// assumption, and what they use. `outputs` says which outputs are wanted; those behind its end are not. It takes time in
-/// proportion to what the steps use. Fails where memory is refused.
+/// Marks for the steps of a pair: the steps of each output that is wanted, that of the assumption's
+/// output, if there is an assumption, and what they use. `outputs` says which outputs are wanted;
+/// those behind its end are not. It takes time in proportion to what the steps use. Fails where
+/// memory is refused.
 pub fn needed(alloc: Global, steps: &Steps<'_>, outputs: &[bool]) -> Result<Vec<bool>, AllocError>
     requires { length outputs.now ≤ length steps.now.pair.first.outputs }
     ensures closed { IfOk result (λ marks. AreClosed steps.now marks.items) }

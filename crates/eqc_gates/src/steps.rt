@@ -37,7 +37,8 @@ fn literals_of(
     Ok(found)
 }
 
-/// The literal of a step, by what makes its value. Fails where memory is refused, or nodes are too many.
+/// The literal of a step, by what makes its value. Fails where memory is refused, or nodes are too
+/// many.
 fn step_literal(
     alloc: Global,
     steps: &Steps<'_>,
@@ -68,13 +69,14 @@ fn step_literal(
     }
 }
 
-/// The literals of the marked steps of a pair, none for the others. Each has its step's value under all values of the
-/// variables, and older literals of the graph keep theirs.
+/// The literals of the marked steps of a pair, none for the others. Each has its step's value under
+/// all values of the variables, and older literals of the graph keep theirs.
 ///
-/// `marks` has a mark for each step; what a marked step uses is marked, as after `needed`. What enters the graph is in
-/// proportion to the covers' text, for each instance of a model anew; the rows of a cover whose table is known aren't gone through.
-/// `told` is told of each step before it is looked at, in
-/// their order, whether it is marked or not. Fails where memory is refused, or where the graph has no room for more nodes.
+/// `marks` has a mark for each step; what a marked step uses is marked, as after `needed`. What
+/// enters the graph is in proportion to the covers' text, for each instance of a model anew; the
+/// rows of a cover whose table is known aren't gone through. `told` is told of each step before it
+/// is looked at, in their order, whether it is marked or not. Fails where memory is refused, or
+/// where the graph has no room for more nodes.
 pub fn literals<F: Fn(u32)>(
     alloc: Global,
     steps: &Steps<'_>,

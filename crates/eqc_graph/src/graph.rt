@@ -56,7 +56,8 @@ impl Graph {
     }
 
     #[tactic(auto, using(crate::proofs::GraphLemmas::extends_more, crate::proofs::GraphLemmas::extends_itself, crate::proofs::GraphLemmas::value_pushed))]
-    /// Puts a node behind the others, and gives its literal. Fails where memory is refused, or where there are 2^30 nodes.
+    /// Puts a node behind the others, and gives its literal. Fails where memory is refused, or
+    /// where there are 2^30 nodes.
     pub fn push(&mut self, node: Node) -> Result<u32, AllocError>
         requires { IsBelow (length self.old) node }
         ensures pushed { OnOk result (self.new ≡ self.old ++ node ∷ []) }

@@ -1,4 +1,5 @@
-//! Literals: twice the number of a node, and one more for its complement. So 0 is false, and 1 is true.
+//! Literals: twice the number of a node, and one more for its complement. So 0 is false, and 1 is
+//! true.
 ghost use Rattle.std.specs.Prelude.{◌≡◌, ℕ, ◌/◌, ◌%◌, ◌==◌, Bool, not, List};
 ghost use Rattle.eqc_graph.specs.Graph.{differ, literal_value};
 

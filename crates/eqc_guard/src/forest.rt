@@ -65,7 +65,8 @@ impl Forest {
     /// Worker 0 of a new forest over `vars` variables, which holds nothing and is alone.
     ///
     /// There may be 1 to 1,048,574 nodes, 1 to 1,048,576 cells of the operation cache and 1 to 64
-    /// workers. All words and maps that the forest will have are made here. The error is 72 alone.
+    /// workers. All words and maps that the forest will have are made here. The error is
+    /// `AllocError` alone.
     pub fn new(
         alloc: Global,
         vars: u16,
@@ -87,10 +88,11 @@ impl Forest {
     }
 
     /// Worker 0 of a new forest with as many variables as nodes, each slot having the literal of a
-    /// variable: variable i has the slot 2 + i. The worker holds each once, and has their references
-    /// in this order. It is alone and at rest, and all cells are empty.
+    /// variable: variable i has the slot 2 + i. The worker holds each once, and has their
+    /// references in this order. It is alone and at rest, and all cells are empty.
     ///
-    /// There may be 1 to 64 workers, 1 to 16 nodes and 1 to 16 cells. The error is 72 alone.
+    /// There may be 1 to 64 workers, 1 to 16 nodes and 1 to 16 cells. The error is `AllocError`
+    /// alone.
     pub fn stocked(
         alloc: Global,
         workers: u32,

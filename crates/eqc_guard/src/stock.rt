@@ -19,8 +19,8 @@ const STRIPES: u32 = 16;
 // different stripes take no line from each other.
 pub(crate) const APART: u32 = 8;
 
-// How many words it is from one announcement word to the next: the four of a worker fill a cache line, so that workers that
-// announce take no line from each other.
+// How many words it is from one announcement word to the next: the four of a worker fill a cache
+// line, so that workers that announce take no line from each other.
 pub(crate) const ASIDE: u32 = 2;
 
 // Puts a word n times behind the others.

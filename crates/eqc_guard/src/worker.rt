@@ -285,8 +285,8 @@ impl Worker {
         }
     }
 
-    /// Gives a held name back that is a slot's, and tells the count that it had. Where that was 2, one
-    /// owner is left.
+    /// Gives a held name back that is a slot's, and tells the count that it had. Where that was 2,
+    /// one owner is left.
     pub fn down_from(&mut self, name: Ref) -> u64
         requires ready { IsReady self.old.known.core }
         requires slot { 2 ≤ name.number }
@@ -568,8 +568,8 @@ impl Worker {
         counted
     }
 
-    /// An announcement word of the worker, which is not the first, that announces nothing: a snapshot
-    /// may be taken by it. There is none where each of them announces a name.
+    /// An announcement word of the worker, which is not the first, that announces nothing: a
+    /// snapshot may be taken by it. There is none where each of them announces a name.
     pub fn free_word(&self) -> Option<u32>
         ensures some { IfSome result (λ k. IsFree self.now.known.core k) }
         ensures none { result ≡ None → (k : ℕ) → IsFree self.now.known.core k → ⊥ }
@@ -607,8 +607,8 @@ impl Worker {
     /// twice: its result stays until it is released.
     ///
     /// There is none where the word has no node as its result, or the second look finds another
-    /// word. Then the first announcement word, which it goes by, announces nothing. A worker that is
-    /// alone acquires the word that its cell has, where that has a node as its result.
+    /// word. Then the first announcement word, which it goes by, announces nothing. A worker that
+    /// is alone acquires the word that its cell has, where that has a node as its result.
     pub fn acquire(&mut self, cell: u32) -> Option<u64>
         requires { MayLook self.old.known.core 0 cell }
         ensures some { IfSome result (λ word. IsAcquired 0 word self.old self.new) }
@@ -633,7 +633,8 @@ impl Worker {
 
     /// Announces, by the k-th announcement word of the worker, the result of the word that was seen
     /// for it, a node, and looks again: the second half of `acquire`. Where the second look finds
-    /// another word, nothing is announced by it. A worker that is alone finds the word that its cell has.
+    /// another word, nothing is announced by it. A worker that is alone finds the word that its
+    /// cell has.
     pub fn confirm(&mut self, k: u32, found: u32) -> bool
         requires may { MayAnnounce self.old.known.core k found }
         requires slot { 2 ≤ found }
@@ -723,8 +724,8 @@ impl Worker {
     /// longer. At most as many names are retired then as there are announcement words, and none at
     /// a worker that is alone, has a copy of the words, and announces nothing.
     ///
-    /// No scan is under way, the first announcement word announces nothing, and at most 2^39 names are
-    /// held. What the other announcement words announce stays.
+    /// No scan is under way, the first announcement word announces nothing, and at most 2^39 names
+    /// are held. What the other announcement words announce stays.
     pub fn scan(&mut self)
         requires ready { IsReady self.old.known.core }
         requires may { MayScan self.old.known.core }

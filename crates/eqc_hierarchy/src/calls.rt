@@ -10,8 +10,8 @@ use eqc_netlist::Graph;
 use std::alloc::{AllocError, Global};
 use std::marker::Model;
 
-/// The numbers of the models that the instances in each model name. The number of models stands for a model that isn't
-/// there, and has no instances.
+/// The numbers of the models that the instances in each model name. The number of models stands for
+/// a model that isn't there, and has no instances.
 #[derive(Drop)]
 pub struct Calls<'a> {
     library: &'a Library,
@@ -87,7 +87,8 @@ impl<'a> Calls<'a> {
         self.callees.len()
     }
 
-    /// The numbers of the models that the instances in model `m` name, which is at most the number of models.
+    /// The numbers of the models that the instances in model `m` name, which is at most the number
+    /// of models.
     pub fn callees(&self, m: usize) -> &[usize]
         requires { m ≤ length self.now }
         ensures { result.now ≡ callees self.now m }

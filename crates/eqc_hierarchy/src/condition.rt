@@ -36,8 +36,8 @@ fn first_of<C: Condition>(
     Ok(None)
 }
 
-/// The first instance in these models of which a condition holds, by its model and its position there, if it holds of
-/// one. Fails where memory is refused.
+/// The first instance in these models of which a condition holds, by its model and its position
+/// there, if it holds of one. Fails where memory is refused.
 pub(crate) fn first_instance<C: Condition>(
     alloc: Global,
     library: &Library,

@@ -1,4 +1,5 @@
-//! What is at fault in a hierarchy that is refused for an instance: the first that meets the condition, and its formal.
+//! What is at fault in a hierarchy that is refused for an instance: the first that meets the
+//! condition, and its formal.
 ghost use Rattle.std.specs.Prelude.{◌≡◌, ◌<◌, [], length, map, take, true, not, position, is_some, slice_index_or, IfOk, IfSome};
 ghost use Rattle.eqc_netlist.specs.Names.{is_named, has_twice};
 ghost use Rattle.eqc_hierarchy.specs.Codes.{IsRefusedWith};
@@ -20,8 +21,8 @@ use eqc_blif::{Library, Name};
 use eqc_netlist::NameSet;
 use std::alloc::{AllocError, Global};
 
-/// The first instance in the models that model `top` reaches of which a condition holds, where it holds of one. Fails
-/// where memory is refused.
+/// The first instance in the models that model `top` reaches of which a condition holds, where it
+/// holds of one. Fails where memory is refused.
 fn first_at_fault<'a, C: Condition>(
     alloc: Global,
     library: &'a Library,
@@ -40,8 +41,8 @@ fn first_at_fault<'a, C: Condition>(
     Ok(FoundInstance::new(library, model, position))
 }
 
-/// An instance of a model that isn't in the library, in a hierarchy that is refused for one. Fails where memory is
-/// refused.
+/// An instance of a model that isn't in the library, in a hierarchy that is refused for one. Fails
+/// where memory is refused.
 pub fn missing_model(
     alloc: Global,
     library: &Library,
@@ -56,7 +57,8 @@ pub fn missing_model(
     Ok(found)
 }
 
-/// A formal that its model doesn't have, in a hierarchy that is refused for one. Fails where memory is refused.
+/// A formal that its model doesn't have, in a hierarchy that is refused for one. Fails where memory
+/// is refused.
 pub fn unknown_formal(
     alloc: Global,
     library: &Library,
@@ -74,7 +76,8 @@ pub fn unknown_formal(
     Ok(FoundFormal::new(found, formal))
 }
 
-/// A formal that stands twice in an instance, in a hierarchy that is refused for one. Fails where memory is refused.
+/// A formal that stands twice in an instance, in a hierarchy that is refused for one. Fails where
+/// memory is refused.
 pub fn formal_twice(
     alloc: Global,
     library: &Library,
@@ -104,7 +107,8 @@ fn first_left_out(names: &NameSet<'_>, words: &[Name]) -> Option<usize>
     words.iter().position(|word| !names.has(word.as_bytes()))
 }
 
-/// An input for which an instance has no pair, in a hierarchy that is refused for one. Fails where memory is refused.
+/// An input for which an instance has no pair, in a hierarchy that is refused for one. Fails where
+/// memory is refused.
 pub fn missing_input(
     alloc: Global,
     library: &Library,

@@ -1,11 +1,12 @@
-//! Hierarchies: the models that a main model reaches, the names of each, the first condition that their instances break, and
-//! what is at fault there. All of it is told model by model, before any instance or signal is numbered.
+//! Hierarchies: the models that a main model reaches, the names of each, the first condition that
+//! their instances break, and what is at fault there. All of it is told model by model, before any
+//! instance or signal is numbered.
 //!
-//! What a hierarchy means is said in `specs/Hierarchy.antt`, `specs/Signals.antt` and `specs/Codes.antt`. Read the modules in this
-//! order:
+//! What a hierarchy means is said in `specs/Hierarchy.antt`, `specs/Signals.antt` and
+//! `specs/Codes.antt`. Read the modules in this order:
 //!
-//! - `calls`, which models a model's instances name; in it `reach`, which models are reached, and `recursion`, a chain of
-//!   models that comes back; `search`, an order over a graph
+//! - `calls`, which models a model's instances name; in it `reach`, which models are reached, and
+//!   `recursion`, a chain of models that comes back; `search`, an order over a graph
 //! - `model_faults`, the first rule that a model breaks, by a `condition`, whose
 //!   `instance_conditions` are those of instances
 //! - `instance_findings`, what is at fault, told by a `found_instance`

@@ -1,4 +1,5 @@
-//! The first rule that is broken by the models that a main model reaches, told before any instance is numbered.
+//! The first rule that is broken by the models that a main model reaches, told before any instance
+//! is numbered.
 ghost use Rattle.std.specs.Prelude.{◌≡◌, ℕ, ◌<◌, ◌≤◌, length, Some, IfOk, MatchOption};
 ghost use Rattle.eqc_netlist.specs.Dependency.{among};
 ghost use Rattle.eqc_hierarchy.specs.Hierarchy.{reached};
@@ -34,7 +35,8 @@ fn is_recursive(alloc: Global, calls: &Calls<'_>, top: usize) -> Result<bool, Al
     Ok(!ends)
 }
 
-/// Whether an instance in one of these models has a formal that is neither input nor output of its model.
+/// Whether an instance in one of these models has a formal that is neither input nor output of its
+/// model.
 fn has_unknown_formal(
     alloc: Global,
     library: &Library,
@@ -70,8 +72,8 @@ fn has_missing_formal(
     some_instance(alloc, library, models, &condition)
 }
 
-/// The first code of these models, which are those that model `top` reaches, or none where none applies. Fails where memory
-/// is refused.
+/// The first code of these models, which are those that model `top` reaches, or none where none
+/// applies. Fails where memory is refused.
 fn fault_of(
     alloc: Global,
     calls: &Calls<'_>,
@@ -101,10 +103,10 @@ fn fault_of(
     Ok(None)
 }
 
-/// The first code of the models that model `top` of a library reaches, which is below the number of models, or none where
-/// none applies: 21 for an instance of a model that isn't there, 22 for a model that reaches itself, 23 for a formal that
-/// its model doesn't have, 24 for a formal twice in an instance, 25 for an input of an instance without a pair. Fails
-/// where memory is refused.
+/// The first code of the models that model `top` of a library reaches, which is below the number of
+/// models, or none where none applies: 21 for an instance of a model that isn't there, 22 for a
+/// model that reaches itself, 23 for a formal that its model doesn't have, 24 for a formal twice in
+/// an instance, 25 for an input of an instance without a pair. Fails where memory is refused.
 pub fn first_model_fault(
     alloc: Global,
     calls: &Calls<'_>,

@@ -1,4 +1,5 @@
-//! The names that occur in each model of a library, with their places: an instance of a model has a signal for each.
+//! The names that occur in each model of a library, with their places: an instance of a model has a
+//! signal for each.
 ghost use Rattle.std.specs.Prelude.{◌≡◌, ◌<◌, [], length, map, true, slice_index_or, IfOk};
 ghost use Rattle.std.specs.List.{position_or_len};
 ghost use Rattle.std.specs.Str.{bytes_eq};
@@ -21,8 +22,9 @@ use std::marker::Model;
 pub struct Naming<'a> {
     library: &'a Library,
     sets: Vec<NameSet<'a>>,
-    /// Where the output of each cover stands among the names of its model, by the number of the cover among all of the
-    /// library: only looked at first, so that nothing but the time depends on it.
+    /// Where the output of each cover stands among the names of its model, by the number of the
+    /// cover among all of the library: only looked at first, so that nothing but the time depends
+    /// on it.
     outputs: Vec<u32>,
 }
 
@@ -39,8 +41,8 @@ impl<'a> Model for Naming<'a> {
 }
 
 impl<'a> Naming<'a> {
-    /// The names of a library's models, and the places of the columns of each cover, model by model. Fails where memory
-    /// is refused.
+    /// The names of a library's models, and the places of the columns of each cover, model by
+    /// model. Fails where memory is refused.
     pub fn of(
         alloc: Global,
         library: &'a Library,
@@ -91,7 +93,8 @@ impl<'a> Naming<'a> {
         self.sets[m].position(name).unwrap()
     }
 
-    /// A place at which the output of a cover may stand, by the number of the cover among all of the library.
+    /// A place at which the output of a cover may stand, by the number of the cover among all of
+    /// the library.
     fn output_place(&self, cover: u32) -> u32 {
         match self.outputs.get(cover as usize) {
             Some(place) => *place,
@@ -99,8 +102,8 @@ impl<'a> Naming<'a> {
         }
     }
 
-    /// Where a name that occurs in model `m` stands among its names, which is found at once where it is the output of a
-    /// cover, by the number of the cover among all of the library.
+    /// Where a name that occurs in model `m` stands among its names, which is found at once where
+    /// it is the output of a cover, by the number of the cover among all of the library.
     pub fn output_position(&self, m: usize, name: &[u8], cover: u32) -> usize
         requires { is_named (names_of (model self.now m)) name.now ≡ true }
         ensures first { result ≡ position_or_len (λ other. bytes_eq name.now other) (names_of (model self.now m)) }
@@ -111,7 +114,8 @@ impl<'a> Naming<'a> {
         self.sets[m].position_near(name, near).unwrap()
     }
 
-    /// Where a name that occurs in model `m` stands among its names, and whether it is an input of it.
+    /// Where a name that occurs in model `m` stands among its names, and whether it is an input of
+    /// it.
     pub fn port(&self, m: usize, name: &[u8]) -> (usize, bool)
         requires { is_named (names_of (model self.now m)) name.now ≡ true }
         ensures within { result.0 < length (names_of (model self.now m)) }

@@ -1,4 +1,5 @@
-//! A depth-first search along dependencies, for an order in which each node stands behind those it depends on, or for a circle.
+//! A depth-first search along dependencies, for an order in which each node stands behind those it
+//! depends on, or for a circle.
 ghost use Rattle.std.specs.Prelude.{◌≡◌, ℕ, ◌+◌, ◌<◌, List, [], ◌∷◌, vec_len, IfOk, OnOk, true, false, ◌++◌, ◌-◌, ◌↔◌, take, slice_set, IsTrue};
 ghost use Rattle.eqc_netlist.specs.Dependency.{among, ends_within};
 ghost use Rattle.eqc_hierarchy.specs.Walks.{WalksBack};
@@ -22,7 +23,8 @@ pub struct Search {
     pub stages: Vec<Stage>,
     /// The nodes that it is done with, each behind all that it depends on.
     pub order: Vec<usize>,
-    /// The way into the circle that was found: from the root on, and last a node that stands before in it.
+    /// The way into the circle that was found: from the root on, and last a node that stands before
+    /// in it.
     pub trail: Vec<usize>,
 }
 
@@ -64,7 +66,8 @@ impl Search {
         self.trail
     }
 
-    /// Puts `root` and all that it leads to into the order. Answers false where one of these depends on itself.
+    /// Puts `root` and all that it leads to into the order. Answers false where one of these
+    /// depends on itself.
     pub fn visit<G: Graph>(
         &mut self,
         alloc: Global,

@@ -1,4 +1,5 @@
-//! How many signals and instances a hierarchy has, counted model by model, since they may be too many to number.
+//! How many signals and instances a hierarchy has, counted model by model, since they may be too
+//! many to number.
 ghost use Rattle.std.specs.Prelude.{◌≡◌, ℕ, ◌+◌, ◌-◌, ◌<◌, ◌≤◌, None, length, vec_len, true, false, slice_index_or, IfOk};
 ghost use Rattle.std.specs.List.{sum_by};
 ghost use Rattle.eqc_hierarchy.specs.Codes.{is_recursive};
@@ -20,8 +21,8 @@ fn sum_and_one(first: Option<usize>, second: Option<usize>) -> Option<usize>
     first?.checked_add(second?)?.checked_add(1)
 }
 
-/// The number of signals and instances below model `m`, which is no instance itself, from those of the models of its
-/// instances. None stands for a number over 2^64 - 1.
+/// The number of signals and instances below model `m`, which is no instance itself, from those of
+/// the models of its instances. None stands for a number over 2^64 - 1.
 fn size_by_callees(
     calls: &Calls<'_>,
     naming: &Naming<'_>,
@@ -41,8 +42,9 @@ fn size_by_callees(
     size
 }
 
-/// The number of signals and instances below each of these models, each of which stands after the models of its
-/// instances. None stands for a number over 2^64 - 1, and for that of any other model. Fails where memory is refused.
+/// The number of signals and instances below each of these models, each of which stands after the
+/// models of its instances. None stands for a number over 2^64 - 1, and for that of any other
+/// model. Fails where memory is refused.
 fn sizes_of(
     alloc: Global,
     calls: &Calls<'_>,
@@ -63,9 +65,9 @@ fn sizes_of(
     Ok(sizes)
 }
 
-/// The number of flat signals and instances together below model `top`, whose models never reach themselves, or none
-/// where it is over 2^64 - 1. It is counted model by model, since there can be far more instances than a text has lines.
-/// Fails where memory is refused.
+/// The number of flat signals and instances together below model `top`, whose models never reach
+/// themselves, or none where it is over 2^64 - 1. It is counted model by model, since there can be
+/// far more instances than a text has lines. Fails where memory is refused.
 pub fn hierarchy_size(
     alloc: Global,
     library: &Library,

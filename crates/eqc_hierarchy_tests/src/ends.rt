@@ -1,5 +1,5 @@
-//! The ends of tests, which alone have the branches and the words of a row that doesn't hold: a test that has them itself is proved
-//! at each of its branches, with all that it holds there.
+//! The ends of tests, which alone have the branches and the words of a row that doesn't hold: a
+//! test that has them itself is proved at each of its branches, with all that it holds there.
 
 use eqc_testing::{Row, first_wrong};
 use std::alloc::{AllocError, Global};

@@ -1,8 +1,9 @@
 //! What is at fault in a hierarchy that is refused, worked out by hand.
 //!
-//! A finding is shown on one line: its code; then for a signal its name, and the position and the model of each instance on the
-//! way to it, from its own up; for an instance the model in which it stands, its position there, and its own model; for a formal
-//! its instance before it; for a recursion the models; for a circle how many signals it has, and their names, which are letters,
+//! A finding is shown on one line: its code; then for a signal its name, and the position and the
+//! model of each instance on the way to it, from its own up; for an instance the model in which it
+//! stands, its position there, and its own model; for a formal its instance before it; for a
+//! recursion the models; for a circle how many signals it has, and their names, which are letters,
 //! in the order of the alphabet; and for a size what is there and what may be.
 
 use crate::ends::{check_rows, holds};
@@ -77,7 +78,8 @@ fn shown(alloc: Global, finding: &Finding<'_>) -> Result<Line, AllocError> {
     }
 }
 
-/// What is at fault below the main model of a library, which may have so many inputs, or `-` where nothing is.
+/// What is at fault below the main model of a library, which may have so many inputs, or `-` where
+/// nothing is.
 fn library_finding(alloc: Global, library: &Library, limit: u16) -> Result<Line, AllocError> {
     if library.models() == 0 {
         return Line::new(alloc, "no model");
@@ -160,7 +162,8 @@ fn names_a_missing_model_and_who_asks_for_it(rt: HostRuntime) {
     check_rows(&rt, MISSING, |alloc, text, wanted| has(alloc, text, wanted));
 }
 
-/// Main models with two instances of a model with the inputs `x` and `v` and the output `z`, the second of which is at fault.
+/// Main models with two instances of a model with the inputs `x` and `v` and the output `z`, the
+/// second of which is at fault.
 #[rattlefmt::skip]
 static FORMALS: &[Row<&str>] = &[
     ("no port", ".model m;.subckt n x=a v=b z=c;.subckt n x=a v=b w=c;.end;.model n;.inputs x v;.outputs z;.end;", "23 0.1 n w"),

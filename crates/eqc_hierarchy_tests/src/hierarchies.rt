@@ -1,5 +1,5 @@
-//! Flat netlists: the codes of a hierarchy's models, and the values of outputs, worked out by hand from the rules of the
-//! format.
+//! Flat netlists: the codes of a hierarchy's models, and the values of outputs, worked out by hand
+//! from the rules of the format.
 
 ghost use Rattle.std.specs.Prelude.{◌<◌, length};
 
@@ -32,8 +32,8 @@ fn has_code(alloc: Global, text: &[u8], code: Option<u8>) -> bool {
     }
 }
 
-/// Texts and their codes. The codes of models are 21 to 25; the first text has none of them, and then 27, since nothing
-/// drives the output of its second model.
+/// Texts and their codes. The codes of models are 21 to 25; the first text has none of them, and
+/// then 27, since nothing drives the output of its second model.
 #[rattlefmt::skip]
 static CODES: &[Row<Option<u8>>] = &[
     ("an output that nothing drives", ".model m;.inputs a;.outputs y;.subckt n x=a z=y;.end;.model n;.inputs x;.outputs z;.end;", Some(27)),
@@ -95,7 +95,8 @@ fn as_many_inputs_are_taken_as_are_allowed(rt: HostRuntime) {
     }
 }
 
-/// Which of the first two models of a library is refused: none where both are accepted, or aren't there.
+/// Which of the first two models of a library is refused: none where both are accepted, or aren't
+/// there.
 fn fault_of_two(alloc: Global, library: &Library) -> Option<FaultOfTwo> {
     if library.models() < 2 {
         return None;
@@ -128,7 +129,8 @@ fn tells_which_of_two_models_is_at_fault(rt: HostRuntime) {
     );
 }
 
-/// Whether a flat netlist has so many signals, and these values of its outputs under those of its inputs.
+/// Whether a flat netlist has so many signals, and these values of its outputs under those of its
+/// inputs.
 fn flat_gives(
     alloc: Global,
     flat: &Flat<'_>,
@@ -217,7 +219,8 @@ fn name_word(alloc: Global, name: &[u8]) -> Result<String, AllocError> {
     Ok(word)
 }
 
-/// The name of a signal behind those of the positions on the way to its instance, from the main model down.
+/// The name of a signal behind those of the positions on the way to its instance, from the main
+/// model down.
 fn path_of(alloc: Global, flat: &Flat<'_>, s: u32) -> Result<String, AllocError>
     requires { s < length flat.now.drivers }
 {

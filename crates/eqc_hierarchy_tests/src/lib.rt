@@ -1,4 +1,5 @@
-//! The tests of what hierarchies mean: flat netlists, pairs of them, and what is told of those that are refused.
+//! The tests of what hierarchies mean: flat netlists, pairs of them, and what is told of those that
+//! are refused.
 //!
 //! - `hierarchies`, `random_hierarchies` and `explanations`, of `eqc_flat` and what it stands on
 //! - `pair_findings`, of `eqc_pair`

@@ -52,7 +52,8 @@ fn shown(alloc: Global, finding: &Finding<'_>) -> Result<Line, AllocError> {
     }
 }
 
-/// What is at fault in two flat netlists whose chosen outputs have these names, or `-` where nothing is.
+/// What is at fault in two flat netlists whose chosen outputs have these names, or `-` where
+/// nothing is.
 fn flat_finding(
     alloc: Global,
     first: &Flat<'_>,

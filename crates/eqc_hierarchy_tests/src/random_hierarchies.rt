@@ -1,5 +1,5 @@
-//! Small hierarchies by chance: the outputs that `eval` answers are those of a plain evaluation, which goes down the
-//! models of the library and never looks at the flat netlist.
+//! Small hierarchies by chance: the outputs that `eval` answers are those of a plain evaluation,
+//! which goes down the models of the library and never looks at the flat netlist.
 ghost use Rattle.std.specs.Prelude.{◌<◌, IfOk, length};
 
 use eqc_blif::{Cover, Instance, Library, Name, read};
@@ -31,8 +31,8 @@ struct Ports {
     outputs: u32,
 }
 
-/// A text while it is written, by numbers that are the same in every run. In a model the inputs are `i0`, `i1`, .., and
-/// the signals that are made after them `t0`, `t1`, ...
+/// A text while it is written, by numbers that are the same in every run. In a model the inputs are
+/// `i0`, `i1`, .., and the signals that are made after them `t0`, `t1`, ...
 #[derive(Drop)]
 struct Draft {
     text: String,
@@ -120,7 +120,8 @@ impl Draft {
         Ok(())
     }
 
-    /// Writes what drives output `k`: an instance of the next model, where there is one, or a cover.
+    /// Writes what drives output `k`: an instance of the next model, where there is one, or a
+    /// cover.
     fn write_output(
         &mut self,
         alloc: Global,
@@ -156,7 +157,8 @@ impl Draft {
         Ok(())
     }
 
-    /// Writes model `m`, which has an instance of the next one, and covers and instances of the models below it.
+    /// Writes model `m`, which has an instance of the next one, and covers and instances of the
+    /// models below it.
     fn write_model(&mut self, alloc: Global, ports: &[Ports], m: u32) -> Result<(), Fail> {
         let own = ports.get(m as usize).copied().ok_or("no such model")?;
         let start = format!(in alloc; ".model m{m}\n")?;
@@ -243,7 +245,8 @@ fn matches(row: &[u8], values: &[bool]) -> bool {
     true
 }
 
-/// The value of a cover: that in which its rows end where one of them matches, else the other; false without rows.
+/// The value of a cover: that in which its rows end where one of them matches, else the other;
+/// false without rows.
 fn cover_value(cover: &Cover, values: &[bool]) -> bool {
     let mut on = true;
     let mut some = false;
@@ -350,8 +353,8 @@ fn callee_of(library: &Library, instance: &Instance) -> Result<usize, Fail>
     }
 }
 
-/// The values of the outputs of model `m` under these values of its inputs: round by round those of its covers and, by
-/// going down at most so many levels, of its instances.
+/// The values of the outputs of model `m` under these values of its inputs: round by round those of
+/// its covers and, by going down at most so many levels, of its instances.
 fn output_values(
     alloc: Global,
     library: &Library,
@@ -391,8 +394,8 @@ fn flat_values(alloc: Global, flat: &Flat<'_>, values: &[bool]) -> Result<Vec<bo
     }
 }
 
-/// Whether a flat netlist and the plain evaluation of its library agree under all values of the inputs, of which there are
-/// three at most.
+/// Whether a flat netlist and the plain evaluation of its library agree under all values of the
+/// inputs, of which there are three at most.
 fn agree_everywhere(alloc: Global, library: &Library, flat: &Flat<'_>) -> Result<bool, Fail> {
     for all in ALL_VALUES {
         let values = all.get(..flat.inputs().len()).ok_or("many inputs")?;

@@ -1,8 +1,9 @@
 //! Outputs that are equal since the words to which they belong add up the same.
 //!
-//! The graph of the pair isn't asked: what was found equal in it took the place of other nodes, among them adders. The words enter a
-//! graph of their own, and from there another one, in which carries go along chains. That one is swept with few conflicts, since what is
-//! hard to see is what the sums are for.
+//! The graph of the pair isn't asked: what was found equal in it took the place of other nodes,
+//! among them adders. The words enter a graph of their own, and from there another one, in which
+//! carries go along chains. That one is swept with few conflicts, since what is hard to see is what
+//! the sums are for.
 ghost use Rattle.std.specs.Prelude.{◌≡◌, ℕ, ◌<◌, ◌≤◌, [], None, length, slice_index, IfOk};
 ghost use Rattle.std.specs.List.{All};
 ghost use Rattle.eqc_pair.specs.PairOf.{PairOf};
@@ -29,7 +30,8 @@ use std::alloc::{AllocError, Global};
 /// The most conflicts of a question of the sweep under the sums.
 const CHEAP: u64 = 30;
 
-/// The work of the questions in each attempt to show a word: so much for each node of the graph, and for the graph as a whole.
+/// The work of the questions in each attempt to show a word: so much for each node of the graph,
+/// and for the graph as a whole.
 const EACH_NODE: u64 = 10_000;
 
 const WHOLE: u64 = 60_000_000;
@@ -37,13 +39,14 @@ const WHOLE: u64 = 60_000_000;
 /// So many words that aren't shown equal end a turn.
 const MOST_FAILED: u32 = 3;
 
-/// So often a graph of fewer nodes than `LARGE` is made of the words that are open, each time with other patterns, and with the other netlist
-/// first: which adders are found depends on both.
+/// So often a graph of fewer nodes than `LARGE` is made of the words that are open, each time with
+/// other patterns, and with the other netlist first: which adders are found depends on both.
 const TURNS: u32 = 4;
 
 const LARGE: u32 = 20_000;
 
-/// In a graph of more nodes none is shown: words of 64 bits times 64 take a quarter of them, and each step takes time for what there is.
+/// In a graph of more nodes none is shown: words of 64 bits times 64 take a quarter of them, and
+/// each step takes time for what there is.
 const MOST_NODES: u32 = 200_000;
 
 /// The limits for words in a graph of so many nodes.
@@ -66,13 +69,14 @@ struct Turn {
 }
 
 impl Turn {
-    /// Whether it is of the kind in which what is left of exclusive ors is made first, and the second netlist comes before the first one.
+    /// Whether it is of the kind in which what is left of exclusive ors is made first, and the
+    /// second netlist comes before the first one.
     fn is_other_kind(&self) -> bool {
         self.number % 2 == 1
     }
 
-    /// The limits in a graph of so many nodes. What succeeds mostly takes fewer steps than there are nodes, and what fails takes all that it
-    /// may: that is for the last turn.
+    /// The limits in a graph of so many nodes. What succeeds mostly takes fewer steps than there
+    /// are nodes, and what fails takes all that it may: that is for the last turn.
     fn limits(&self, nodes: u32) -> Limits {
         let limits = self.limits;
         let steps = if self.is_last {
@@ -117,7 +121,8 @@ struct Literals {
     seconds: Vec<u32>,
 }
 
-/// The literals of a word's outputs, up to the first one that has none. Fails where memory is refused.
+/// The literals of a word's outputs, up to the first one that has none. Fails where memory is
+/// refused.
 fn literals_of(
     alloc: Global,
     steps: &Steps<'_>,
@@ -163,7 +168,8 @@ struct Task<'a> {
     turn: Turn,
 }
 
-/// Whether a word is shown equal, in a graph whose adders are known: then its outputs become marked. Fails where memory is refused.
+/// Whether a word is shown equal, in a graph whose adders are known: then its outputs become
+/// marked. Fails where memory is refused.
 fn show_word(
     task: &Task<'_>,
     literals: &[Option<u32>],
@@ -187,8 +193,9 @@ fn show_word(
     Ok(is_shown)
 }
 
-/// Shows words equal one by one, in a graph that has their literals, until too many aren't shown. The watch is told of each word. Fails
-/// where memory is refused; what was marked before stays then.
+/// Shows words equal one by one, in a graph that has their literals, until too many aren't shown.
+/// The watch is told of each word. Fails where memory is refused; what was marked before stays
+/// then.
 fn show_words<R, P: Progress<R>>(
     rt: &R,
     task: &Task<'_>,
@@ -248,8 +255,9 @@ fn literals_of_all(
     Ok(all)
 }
 
-/// Copies what the second netlist's words are made of into a graph that is swept, where the turn has it before the first one's: what is equal
-/// to an older node is that one, and adders are found of older nodes. Fails where memory is refused.
+/// Copies what the second netlist's words are made of into a graph that is swept, where the turn
+/// has it before the first one's: what is equal to an older node is that one, and adders are found
+/// of older nodes. Fails where memory is refused.
 fn copy_second_first(
     task: &Task<'_>,
     plain: &Sweep,
@@ -273,8 +281,8 @@ fn copy_second_first(
     Ok(())
 }
 
-/// Copies what words are made of into a graph that is swept, with chains of carries in place of trees of prefixes, and answers the
-/// literals of the steps there. Fails where memory is refused.
+/// Copies what words are made of into a graph that is swept, with chains of carries in place of
+/// trees of prefixes, and answers the literals of the steps there. Fails where memory is refused.
 fn chained(
     task: &Task<'_>,
     plain: &Sweep,
@@ -296,8 +304,8 @@ fn chained(
     moved(task.alloc, literals, &table)
 }
 
-/// Enters the marked steps into a graph in which nothing is asked, and from there into one that is swept. The watch is told of each step.
-/// Fails where memory is refused.
+/// Enters the marked steps into a graph in which nothing is asked, and from there into one that is
+/// swept. The watch is told of each step. Fails where memory is refused.
 fn enter_by<R, P: Progress<R>>(
     rt: &R,
     task: &Task<'_>,
@@ -333,7 +341,8 @@ fn enter_words<R, P: Progress<R>>(
     enter_by(rt, task, marks, &mut plain.sweep, sweep, watch)
 }
 
-/// Enters so many inputs that nothing depends on: those behind them have other patterns then. Fails where memory is refused.
+/// Enters so many inputs that nothing depends on: those behind them have other patterns then. Fails
+/// where memory is refused.
 fn draw(sweep: &mut Sweep, count: u32) -> Result<(), AllocError> {
     for k in 0..count {
         sweep.input(u32::MAX - k)?;
@@ -341,7 +350,8 @@ fn draw(sweep: &mut Sweep, count: u32) -> Result<(), AllocError> {
     Ok(())
 }
 
-/// Sweeps the marked steps in a new graph, and answers their literals there. The watch is told of each step. Fails where memory is refused.
+/// Sweeps the marked steps in a new graph, and answers their literals there. The watch is told of
+/// each step. Fails where memory is refused.
 fn sweep_words<R, P: Progress<R>>(
     rt: &R,
     task: &Task<'_>,
@@ -360,8 +370,9 @@ fn sweep_words<R, P: Progress<R>>(
     Ok(literals)
 }
 
-/// Shows words equal in a graph that has these literals of theirs, where memory for them wasn't refused. The watch is told of each word.
-/// Fails where memory is refused; what was marked before stays then.
+/// Shows words equal in a graph that has these literals of theirs, where memory for them wasn't
+/// refused. The watch is told of each word. Fails where memory is refused; what was marked before
+/// stays then.
 fn show_swept<R, P: Progress<R>>(
     rt: &R,
     task: &Task<'_>,
@@ -381,9 +392,10 @@ fn show_swept<R, P: Progress<R>>(
     show_words(rt, task, &literals, sums, alike, watch)
 }
 
-/// Enters the marked steps into a graph, and shows words equal there. The watch is told of each step, and then of each word. Fails where
-/// memory is refused; what was marked before stays then. The graph is let go in one exit for its proof's sake: in each of four that takes
-/// many times longer.
+/// Enters the marked steps into a graph, and shows words equal there. The watch is told of each
+/// step, and then of each word. Fails where memory is refused; what was marked before stays then.
+/// The graph is let go in one exit for its proof's sake: in each of four that takes many times
+/// longer.
 fn add_words<R, P: Progress<R>>(
     rt: &R,
     task: &Task<'_>,
@@ -407,8 +419,8 @@ fn add_words<R, P: Progress<R>>(
     shown
 }
 
-/// Enters what words need into a graph, and shows them equal there. The watch is told of each step, and then of each word. Fails where
-/// memory is refused; what was marked before stays then.
+/// Enters what words need into a graph, and shows them equal there. The watch is told of each step,
+/// and then of each word. Fails where memory is refused; what was marked before stays then.
 fn add_open<R, P: Progress<R>>(
     rt: &R,
     task: &Task<'_>,
@@ -443,9 +455,10 @@ impl<'a> Inside<'a> {
             && self.is_sum(literal_of(&self.literals, roots[1]))
     }
 
-    /// The part of a word that is to be shown equal: from its lowest output to its highest one that is open, below one that is seen to
-    /// differ. Outputs below that are known to be equal are needed too, since carries come from there. Where less than half of the open
-    /// ones look like bits of a sum it is empty. Fails where memory is refused.
+    /// The part of a word that is to be shown equal: from its lowest output to its highest one that
+    /// is open, below one that is seen to differ. Outputs below that are known to be equal are
+    /// needed too, since carries come from there. Where less than half of the open ones look like
+    /// bits of a sum it is empty. Fails where memory is refused.
     fn open_part(
         &mut self,
         alloc: Global,
@@ -477,7 +490,8 @@ impl<'a> Inside<'a> {
         Ok(part)
     }
 
-    /// The parts of words of outputs that are to be shown equal, by their names. Fails where memory is refused.
+    /// The parts of words of outputs that are to be shown equal, by their names. Fails where memory
+    /// is refused.
     fn open_words(&mut self, alloc: Global, marks: &[bool]) -> Result<Vec<Vec<usize>>, AllocError>
         requires equal { AreEqual self.old marks.now }
         ensures pair { self.new ≡ self.old }
@@ -522,7 +536,8 @@ impl<'a> Inside<'a> {
         add_open(rt, &task, alike, watch)
     }
 
-    /// Whether words are open in a graph that has something like adders and isn't too large. Fails where memory is refused.
+    /// Whether words are open in a graph that has something like adders and isn't too large. Fails
+    /// where memory is refused.
     fn has_open_sums(&mut self, alloc: Global, marks: &[bool]) -> Result<bool, AllocError>
         requires { AreEqual self.old marks.now }
         ensures { self.new ≡ self.old }
@@ -534,11 +549,14 @@ impl<'a> Inside<'a> {
         Ok(!words.is_empty() && has_adders(alloc, &self.sweep)?)
     }
 
-    /// Marks outputs whose words are shown equal by what they add up to: products, say, that are summed up in different ways. A word are
-    /// outputs of one name with numbers (`words_of`); what is known of it by its marks isn't shown again, and nothing is shown of one
-    /// of more than 128 outputs, or in a graph of more than 200,000 nodes. Where nothing looks like an adder it is left at a look; else it takes
-    /// work in proportion to the conflicts, in up to four turns, in each of which the words that are open enter a graph anew.
-    /// The watch is told of each step that enters, and of each word. Fails where memory is refused; what was marked before stays then.
+    /// Marks outputs whose words are shown equal by what they add up to: products, say, that are
+    /// summed up in different ways. A word are outputs of one name with numbers (`words_of`); what
+    /// is known of it by its marks isn't shown again, and nothing is shown of one of more than 128
+    /// outputs, or in a graph of more than 200,000 nodes. Where nothing looks like an adder it is
+    /// left at a look; else it takes work in proportion to the conflicts, in up to four turns, in
+    /// each of which the words that are open enter a graph anew. The watch is told of each step
+    /// that enters, and of each word. Fails where memory is refused; what was marked before stays
+    /// then.
     pub fn add_up<R, P: Progress<R>>(
         &mut self,
         rt: &R,

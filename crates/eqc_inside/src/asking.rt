@@ -1,4 +1,5 @@
-//! Outputs that are asked for ahead by several threads, each with searches of its own over the one graph.
+//! Outputs that are asked for ahead by several threads, each with searches of its own over the one
+//! graph.
 ghost use Rattle.std.specs.Prelude.{◌≡◌, ◌<◌, None, length, IfOk, IfSome};
 ghost use Rattle.std.specs.List.{All};
 ghost use Rattle.std.specs.Thread.{IsSync};
@@ -66,7 +67,8 @@ pub(crate) struct Share {
     pub work: u64,
 }
 
-/// The question for an output, or none where its steps have no literals. Fails where memory is refused.
+/// The question for an output, or none where its steps have no literals. Fails where memory is
+/// refused.
 pub(crate) fn question_of(
     alloc: Global,
     steps: &Steps<'_>,
@@ -93,8 +95,8 @@ pub(crate) fn question_of(
     }))
 }
 
-/// The questions for these outputs, in their order. An output whose steps have no literals isn't asked for. Fails where memory is
-/// refused.
+/// The questions for these outputs, in their order. An output whose steps have no literals isn't
+/// asked for. Fails where memory is refused.
 pub(crate) fn questions_of(
     alloc: Global,
     steps: &Steps<'_>,
@@ -119,8 +121,8 @@ pub(crate) fn questions_of(
     Ok(all)
 }
 
-/// What is found of an output by a search with so many conflicts and so much work beside them, where these are earlier assignments
-/// that are tried. Fails where memory is refused.
+/// What is found of an output by a search with so many conflicts and so much work beside them,
+/// where these are earlier assignments that are tried. Fails where memory is refused.
 pub(crate) fn ask(
     subject: &Subject<'_>,
     question: &Question,
@@ -169,8 +171,8 @@ fn copied(alloc: Global, assignments: &[Vec<bool>]) -> Result<Vec<Vec<bool>>, Al
     Ok(copies)
 }
 
-/// What is found of each of these outputs, one after the other, up to the first where it gives up. What one takes the next ones can't
-/// have, and its least assignment is tried for them.
+/// What is found of each of these outputs, one after the other, up to the first where it gives up.
+/// What one takes the next ones can't have, and its least assignment is tried for them.
 fn ask_each(
     subject: &Subject<'_>,
     questions: &[Question],
@@ -211,9 +213,10 @@ fn together(
     Ok(all)
 }
 
-/// What is found of these outputs, in their order, by so many threads, of which each takes a part, up to the first where it gives up.
-/// The outputs of the first part may have the share's conflicts, those of each other part as many as its `others` has, and each part its
-/// work. Fails where memory is refused. Where a thread can't be started its part is done here.
+/// What is found of these outputs, in their order, by so many threads, of which each takes a part,
+/// up to the first where it gives up. The outputs of the first part may have the share's conflicts,
+/// those of each other part as many as its `others` has, and each part its work. Fails where memory
+/// is refused. Where a thread can't be started its part is done here.
 #[cycle(questions)]
 pub(crate) fn ask_all<R: Threads + Sync>(
     rt: &R,

@@ -16,8 +16,9 @@ use eqc_witness::{first_shown, words_shown};
 use std::alloc::{AllocError, Global};
 use std::thread::Threads;
 
-/// How much work the searches for differences may do beside their conflicts, all together: so much for each node of the graph and
-/// for the graph as a whole, and never more than so much, whatever the netlist.
+/// How much work the searches for differences may do beside their conflicts, all together: so much
+/// for each node of the graph and for the graph as a whole, and never more than so much, whatever
+/// the netlist.
 const EACH_NODE: u64 = 20_000;
 
 const WHOLE: u64 = 10_000_000;
@@ -27,11 +28,13 @@ const AT_MOST: u64 = 100_000_000;
 /// What it takes to enter a node in a graph in which nothing is asked, as work.
 const ENTERED: u64 = 100;
 
-/// This part of the work is left for searches, however much work it took to see which outputs differ.
+/// This part of the work is left for searches, however much work it took to see which outputs
+/// differ.
 const PART: u64 = 10;
 
-/// So many characters of covers enter at most. A cover enters anew for each instance of its model, so that a short text may have
-/// billions of them, and a million takes half a second. Of real flows few netlists have any.
+/// So many characters of covers enter at most. A cover enters anew for each instance of its model,
+/// so that a short text may have billions of them, and a million takes half a second. Of real flows
+/// few netlists have any.
 pub(crate) const CHARACTERS: u64 = 8_000_000;
 
 /// The work for a graph of so many nodes.
@@ -66,8 +69,8 @@ fn unmark_behind(wanted: &mut Vec<bool>, last: usize)
     }
 }
 
-/// The literals that are true where outputs differ, and the outputs: without those whose steps have none. Fails where memory is
-/// refused.
+/// The literals that are true where outputs differ, and the outputs: without those whose steps have
+/// none. Fails where memory is refused.
 fn differences(
     alloc: Global,
     steps: &Steps<'_>,
@@ -102,7 +105,8 @@ struct Wanted {
     work: u64,
 }
 
-/// Enters the marked steps into a graph, of which nobody is told, and answers their literals. Fails where memory is refused.
+/// Enters the marked steps into a graph, of which nobody is told, and answers their literals. Fails
+/// where memory is refused.
 fn entered_untold(
     alloc: Global,
     steps: &Steps<'_>,
@@ -117,8 +121,9 @@ fn entered_untold(
     literals(alloc, steps, marks, sweep, &ignored)
 }
 
-/// The first of some outputs that is seen to differ under pseudo-random values in a graph to which the marked steps are added, if
-/// one is: others may differ before it. The work that it took is added to what there is. Fails where memory is refused.
+/// The first of some outputs that is seen to differ under pseudo-random values in a graph to which
+/// the marked steps are added, if one is: others may differ before it. The work that it took is
+/// added to what there is. Fails where memory is refused.
 fn first_seen_in(
     alloc: Global,
     steps: &Steps<'_>,
@@ -139,8 +144,8 @@ fn first_seen_in(
     Ok(outputs.get(place).copied())
 }
 
-/// The same in a graph of the marked steps alone, in which nothing is asked. It stands apart for its proof's sake: where a graph is
-/// let go in each exit that takes many times longer.
+/// The same in a graph of the marked steps alone, in which nothing is asked. It stands apart for
+/// its proof's sake: where a graph is let go in each exit that takes many times longer.
 fn first_seen(
     alloc: Global,
     steps: &Steps<'_>,
@@ -157,9 +162,9 @@ fn first_seen(
     first_seen_in(alloc, steps, marks, wanted, &mut plain.sweep, work)
 }
 
-/// Which steps enter for the chosen outputs of a pair that are not marked as equal: unless `every` one that differs is looked for,
-/// without those that only outputs behind the first need that is seen to differ. No step is marked where too much would enter. Fails
-/// where memory is refused.
+/// Which steps enter for the chosen outputs of a pair that are not marked as equal: unless `every`
+/// one that differs is looked for, without those that only outputs behind the first need that is
+/// seen to differ. No step is marked where too much would enter. Fails where memory is refused.
 fn entering(
     alloc: Global,
     steps: &Steps<'_>,
@@ -183,7 +188,8 @@ fn entering(
     Ok(Wanted { marks, work })
 }
 
-/// Enters the marked steps into a graph, and answers their literals. The watch is told of each step. Fails where memory is refused.
+/// Enters the marked steps into a graph, and answers their literals. The watch is told of each
+/// step. Fails where memory is refused.
 pub(crate) fn entered<R, P: Progress<R>>(
     rt: &R,
     alloc: Global,
@@ -219,8 +225,9 @@ impl<'a> Inside<'a> {
         })
     }
 
-    /// Enters the steps that outputs need, into a graph in which nothing is asked yet, and answers the work that it took to see that
-    /// others aren't needed. Fails where memory is refused: no step has a literal then.
+    /// Enters the steps that outputs need, into a graph in which nothing is asked yet, and answers
+    /// the work that it took to see that others aren't needed. Fails where memory is refused: no
+    /// step has a literal then.
     fn enter(&mut self, alloc: Global, alike: &Alike, every: bool) -> Result<u64, AllocError>
         requires { IsKnown self.old alike.now }
         ensures { self.new ≡ self.old }
@@ -231,7 +238,8 @@ impl<'a> Inside<'a> {
         Ok(wanted.work)
     }
 
-    /// Enters the steps that outputs need, sweeps them in a first round, and allows searches. Fails where memory is refused.
+    /// Enters the steps that outputs need, sweeps them in a first round, and allows searches. Fails
+    /// where memory is refused.
     fn begin<R: Threads + Sync, P: Progress<R>>(
         &mut self,
         rt: &R,
@@ -249,13 +257,15 @@ impl<'a> Inside<'a> {
         Ok(())
     }
 
-    /// Enters the steps of a pair that its chosen outputs need which are not marked, where this is known of it, and sweeps them in a first
-    /// round: a step that is chosen in place of others is entered for them. Unless every output that differs is looked for, those behind
-    /// the first that is seen to differ aren't needed. It takes time and memory in proportion to the steps and to the rows of their
-    /// covers, for each instance of a model anew, or once for all instances where a cover has at most six columns; where these are very
-    /// many nothing is entered, and nothing is found of any output. Which outputs are looked for, and what the first round and all searches
-    /// may cost, is told by `rounds`.
-    /// The watch is told of each node that is swept. Fails where memory is refused.
+    /// Enters the steps of a pair that its chosen outputs need which are not marked, where this is
+    /// known of it, and sweeps them in a first round: a step that is chosen in place of others is
+    /// entered for them. Unless every output that differs is looked for, those behind the first
+    /// that is seen to differ aren't needed. It takes time and memory in proportion to the steps
+    /// and to the rows of their covers, for each instance of a model anew, or once for all
+    /// instances where a cover has at most six columns; where these are very many nothing is
+    /// entered, and nothing is found of any output. Which outputs are looked for, and what the
+    /// first round and all searches may cost, is told by `rounds`. The watch is told of each node
+    /// that is swept. Fails where memory is refused.
     pub fn of<R: Threads + Sync, P: Progress<R>>(
         rt: &R,
         alloc: Global,

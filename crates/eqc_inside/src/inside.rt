@@ -1,5 +1,5 @@
-//! What literals of a graph tell of a pair: steps of one literal have one value, so that one of them needs to be made, and
-//! outputs whose two steps have one literal are equal.
+//! What literals of a graph tell of a pair: steps of one literal have one value, so that one of
+//! them needs to be made, and outputs whose two steps have one literal are equal.
 ghost use Rattle.std.specs.Prelude.{◌≡◌, ◌<◌, true, IsTrue, None, length, min, slice_index, slice_index_or, slice_set, IfOk};
 ghost use Rattle.eqc_build.specs.Steps.{AreSteps, IsChoice, chosen_for};
 ghost use Rattle.eqc_build.specs.Turns.{is_marked};
@@ -17,7 +17,8 @@ use std::marker::Model;
 /// The literal of a step that has none.
 pub(crate) const NONE: u32 = 4_294_967_295;
 
-/// A graph that a function owns. It stands here for the sake of proofs: a call in each exit in place of all that is let go.
+/// A graph that a function owns. It stands here for the sake of proofs: a call in each exit in
+/// place of all that is let go.
 pub(crate) struct Owned {
     pub(crate) sweep: Sweep,
 }
@@ -28,15 +29,16 @@ impl Drop for Owned {
     }
 }
 
-/// A graph of the steps of a pair in which nodes that were found equal are one, and the literal of each step that was entered.
-/// Contracts see the pair.
+/// A graph of the steps of a pair in which nodes that were found equal are one, and the literal of
+/// each step that was entered. Contracts see the pair.
 pub struct Inside<'a> {
     pub(crate) steps: Steps<'a>,
     pub(crate) sweep: Sweep,
     pub(crate) literals: Vec<Option<u32>>,
     /// The work that the searches for differences may do beside their conflicts, all together, yet.
     pub(crate) work: u64,
-    /// The last of the least assignments that were found, as values of the first netlist's inputs, as many as are tried.
+    /// The last of the least assignments that were found, as values of the first netlist's inputs,
+    /// as many as are tried.
     pub(crate) earlier: Vec<Vec<bool>>,
     /// Whether the last search for the difference of an output gave up.
     pub(crate) gave_up: bool,
@@ -86,8 +88,8 @@ fn chosen_for(chosen: &[u32], step: u32) -> u32
     chosen.get(step as usize).copied().unwrap_or(step)
 }
 
-/// The lowest step that came with a literal, of those before and this one, which is noted. It is this one where the literal
-/// is none.
+/// The lowest step that came with a literal, of those before and this one, which is noted. It is
+/// this one where the literal is none.
 fn first_with(firsts: &mut Vec<u32>, literal: usize, step: u32) -> u32
     ensures first { result ≡ min (slice_index_or firsts.old.items literal step) step }
     ensures noted { firsts.new.items ≡ slice_set firsts.old.items literal result }
@@ -112,8 +114,8 @@ fn above_all(literals: &[Option<u32>]) -> u32 {
     above
 }
 
-/// Chooses in place of each step the first one of its literal, and the one that is chosen already where it has none. Fails
-/// where memory is refused.
+/// Chooses in place of each step the first one of its literal, and the one that is chosen already
+/// where it has none. Fails where memory is refused.
 fn first_of_literal(
     alloc: Global,
     steps: &Steps<'_>,
@@ -162,7 +164,8 @@ fn is_known_equal(
     have_one_literal(literals, steps.roots(output))
 }
 
-/// Marks the outputs whose two steps have one literal, and those that are marked already. Fails where memory is refused.
+/// Marks the outputs whose two steps have one literal, and those that are marked already. Fails
+/// where memory is refused.
 fn outputs_of_one_literal(
     alloc: Global,
     steps: &Steps<'_>,
@@ -184,7 +187,8 @@ fn outputs_of_one_literal(
 }
 
 impl<'a> Inside<'a> {
-    /// What is known of the pair, with what the literals tell: outputs that are marked stay so. Fails where memory is refused.
+    /// What is known of the pair, with what the literals tell: outputs that are marked stay so.
+    /// Fails where memory is refused.
     pub fn known(&self, alloc: Global, alike: &Alike) -> Result<Alike, AllocError>
         requires { IsKnown self.now alike.now }
         ensures known { IfOk result (IsKnown self.now) }
@@ -195,7 +199,8 @@ impl<'a> Inside<'a> {
         Ok(Alike { equal, chosen })
     }
 
-    /// Whether an output is found equal within so many conflicts, which are counted down. It may be equal without.
+    /// Whether an output is found equal within so many conflicts, which are counted down. It may be
+    /// equal without.
     pub(crate) fn is_equal(&mut self, output: usize, conflicts: &mut u64) -> bool
         requires { output < length self.old.first.outputs }
         ensures pair { self.new ≡ self.old }

@@ -14,8 +14,8 @@ use eqc_sweep::{Sweep, Twins};
 use std::alloc::{AllocError, Global};
 use std::thread::Threads;
 
-/// So many outputs are asked about side by side. Together they may have half of the conflicts that are left: those that want more are
-/// asked about one after the other then.
+/// So many outputs are asked about side by side. Together they may have half of the conflicts that
+/// are left: those that want more are asked about one after the other then.
 const SIDE_BY_SIDE: usize = 16;
 
 /// Whether an output never differs, as these are its two literals.
@@ -59,7 +59,8 @@ fn mark_shown(
     true
 }
 
-/// Marks the outputs that never differ, as these are their literals. Answers how many there are, and what it took to find that.
+/// Marks the outputs that never differ, as these are their literals. Answers how many there are,
+/// and what it took to find that.
 fn mark_all(
     steps: &Steps<'_>,
     sweep: &Sweep,
@@ -105,8 +106,8 @@ impl<'a> Inside<'a> {
         })
     }
 
-    /// The next outputs that are asked about, from one on, and the output behind the last of these. The watch is told of each that is
-    /// looked at. Fails where memory is refused.
+    /// The next outputs that are asked about, from one on, and the output behind the last of these.
+    /// The watch is told of each that is looked at. Fails where memory is refused.
     fn next_twins<R, P: Progress<R>>(
         &mut self,
         rt: &R,
@@ -149,8 +150,8 @@ impl<'a> Inside<'a> {
         true
     }
 
-    /// Asks about some outputs side by side, with so many conflicts each, and marks those that are found equal. Answers how many these
-    /// are, and what it took.
+    /// Asks about some outputs side by side, with so many conflicts each, and marks those that are
+    /// found equal. Answers how many these are, and what it took.
     fn ask_side_by_side<R: Threads + Sync>(
         &mut self,
         rt: &R,
@@ -170,8 +171,8 @@ impl<'a> Inside<'a> {
         mark_all(&self.steps, &self.sweep, &self.literals, &equal, alike)
     }
 
-    /// Asks about some outputs, first side by side and then one after the other, and marks those that are found equal. Whether there are
-    /// any. The conflicts that it took are counted down.
+    /// Asks about some outputs, first side by side and then one after the other, and marks those
+    /// that are found equal. Whether there are any. The conflicts that it took are counted down.
     fn ask_some<R: Threads + Sync>(
         &mut self,
         rt: &R,
@@ -200,9 +201,10 @@ impl<'a> Inside<'a> {
         found
     }
 
-    /// Searches for differences of the chosen outputs that are not marked, with so many conflicts in all, and marks those for which
-    /// there is none. Whether there are any: the others may be equal too. Several are asked about side by side by the threads of the
-    /// last round; what is found doesn't depend on how many there are. The watch is told of each output.
+    /// Searches for differences of the chosen outputs that are not marked, with so many conflicts
+    /// in all, and marks those for which there is none. Whether there are any: the others may be
+    /// equal too. Several are asked about side by side by the threads of the last round; what is
+    /// found doesn't depend on how many there are. The watch is told of each output.
     pub fn ask_outputs<R: Threads + Sync, P: Progress<R>>(
         &mut self,
         rt: &R,

@@ -18,15 +18,15 @@ use std::alloc::{AllocError, Global};
 use std::mem::swap;
 use std::thread::Threads;
 
-/// The most conflicts of a question in each level of rounds, and how much work a round of it may take of all that there is, in
-/// hundredths.
+/// The most conflicts of a question in each level of rounds, and how much work a round of it may
+/// take of all that there is, in hundredths.
 const LEVELS: [(u64, u64); 4] = [(100, 20), (1_000, 20), (10_000, 40), (100_000, 100)];
 
 /// The work of all rounds for each conflict that the options give.
 const WORK: u64 = 10_000;
 
-/// Where there are as many steps, the first round is of the first level, and else of the second one: a first round of cheap questions
-/// pays where the others are many.
+/// Where there are as many steps, the first round is of the first level, and else of the second
+/// one: a first round of cheap questions pays where the others are many.
 const MANY_STEPS: usize = 40_000;
 
 /// So many levels come in short rounds.
@@ -47,7 +47,8 @@ const LONG_NODE: u64 = 100_000;
 
 const LONG_WHOLE: u64 = 100_000_000;
 
-/// A level comes once more after a round of it that found a node equal for each so many questions that were given up.
+/// A level comes once more after a round of it that found a node equal for each so many questions
+/// that were given up.
 const WORTHWHILE: u64 = 8;
 
 /// How much a round may cost.
@@ -72,7 +73,8 @@ pub struct Rounds {
     level: usize,
     left: u64,
     span: Span,
-    /// Whether questions were left open in the last round, and whether there are no more such rounds.
+    /// Whether questions were left open in the last round, and whether there are no more such
+    /// rounds.
     is_open: bool,
     is_over: bool,
 }
@@ -81,8 +83,9 @@ pub struct Rounds {
 const USUAL: u64 = 100_000;
 
 impl Rounds {
-    /// Before the first round over two netlists, with what so many conflicts are worth for all of them, by so many workers. With `every`
-    /// each output that differs is looked for, else the first alone.
+    /// Before the first round over two netlists, with what so many conflicts are worth for all of
+    /// them, by so many workers. With `every` each output that differs is looked for, else the
+    /// first alone.
     pub fn of(pair: &Pair<'_>, conflicts: u64, workers: u32, every: bool) -> Rounds {
         let steps = pair
             .first()
@@ -107,7 +110,8 @@ impl Rounds {
         !self.is_over && self.left > 0
     }
 
-    /// Work in proportion to the conflicts that the options give, where it is so much with the usual number of them.
+    /// Work in proportion to the conflicts that the options give, where it is so much with the
+    /// usual number of them.
     pub(crate) fn in_proportion(&self, work: u64) -> u64 {
         work.saturating_mul(self.conflicts) / USUAL
     }
@@ -139,8 +143,8 @@ impl Rounds {
         self.span = span;
     }
 
-    /// Takes what a round spent. There is none behind it where it gave no question up; where it found little, questions may have more
-    /// in the next one.
+    /// Takes what a round spent. There is none behind it where it gave no question up; where it
+    /// found little, questions may have more in the next one.
     pub fn count(&mut self, round: Tally) {
         self.left = self.left.saturating_sub(round.work);
         self.is_open = round.open > 0 || round.is_cut;
@@ -162,8 +166,8 @@ impl Rounds {
     }
 }
 
-/// The literals of the steps that outputs which aren't known yet are made of, in the first netlist alone or in both, and that of the
-/// assumption. Fails where memory is refused.
+/// The literals of the steps that outputs which aren't known yet are made of, in the first netlist
+/// alone or in both, and that of the assumption. Fails where memory is refused.
 fn open_literals(
     alloc: Global,
     steps: &Steps<'_>,
@@ -239,7 +243,8 @@ impl<'a> Inside<'a> {
         matches!(self.sweep.equal(x, y, &mut 0), Ok(Comparison::Differs(_)))
     }
 
-    /// Whether an output that isn't known to be equal is seen to differ by simulation. Nothing is promised of it.
+    /// Whether an output that isn't known to be equal is seen to differ by simulation. Nothing is
+    /// promised of it.
     pub fn sees_difference(&mut self, alike: &Alike) -> bool
         requires { IsKnown self.old alike.now }
         ensures { self.new ≡ self.old }
@@ -259,14 +264,15 @@ impl<'a> Inside<'a> {
         self.sweep.tally()
     }
 
-    /// How many nodes there are of what outputs depended on which weren't known to be equal before the last round. Nothing is promised of
-    /// it.
+    /// How many nodes there are of what outputs depended on which weren't known to be equal before
+    /// the last round. Nothing is promised of it.
     pub fn nodes(&self) -> u32 {
         self.sweep.graph().len()
     }
 
-    /// The literals of steps in another graph, into which what open outputs depend on is copied: all that is in the first netlist before
-    /// the rest, so that what is equal in the second one finds it there. The watch is told of each node. Fails where memory is refused.
+    /// The literals of steps in another graph, into which what open outputs depend on is copied:
+    /// all that is in the first netlist before the rest, so that what is equal in the second one
+    /// finds it there. The watch is told of each node. Fails where memory is refused.
     fn literals_in<R: Threads + Sync, P: Progress<R>>(
         &self,
         rt: &R,
@@ -290,8 +296,9 @@ impl<'a> Inside<'a> {
         moved(alloc, &self.literals, &table)
     }
 
-    /// Sweeps what the outputs depend on which aren't known to be equal, once more with this effort. The watch is told of each node.
-    /// Fails where memory is refused; what was found before stays then.
+    /// Sweeps what the outputs depend on which aren't known to be equal, once more with this
+    /// effort. The watch is told of each node. Fails where memory is refused; what was found before
+    /// stays then.
     pub fn sweep_again<R: Threads + Sync, P: Progress<R>>(
         &mut self,
         rt: &R,

@@ -1,5 +1,5 @@
-//! What the comparison of a pair finds, found in the graph of its steps without a diagram: the outputs that differ, with their
-//! least assignments, and whether the assumption allows one.
+//! What the comparison of a pair finds, found in the graph of its steps without a diagram: the
+//! outputs that differ, with their least assignments, and whether the assumption allows one.
 ghost use Rattle.std.specs.Prelude.{◌≡◌, ℕ, ◌<◌, false, true, None, length, slice_set, IfOk, IfSome};
 ghost use Rattle.std.specs.List.{All};
 ghost use Rattle.eqc_graph.specs.Graph.{Extends, IsWithin};
@@ -20,8 +20,8 @@ use eqc_witness::{EARLIER, Hints, Target, Witness, least_witness};
 use std::alloc::{AllocError, Global};
 use std::thread::Threads;
 
-/// So many outputs each thread asks for in turn, where all that differ are looked for: the least assignment of one is mostly near that
-/// of the next.
+/// So many outputs each thread asks for in turn, where all that differ are looked for: the least
+/// assignment of one is mostly near that of the next.
 const IN_TURN: usize = 8;
 
 /// What is found of a pair.
@@ -29,8 +29,8 @@ const IN_TURN: usize = 8;
 pub enum Searched {
     /// What its comparison has to find.
     Found(Outcome),
-    /// The search gave up at this output, by its position in the first netlist, with an assignment that is allowed and under which
-    /// it differs, if one was seen: maybe not the least.
+    /// The search gave up at this output, by its position in the first netlist, with an assignment
+    /// that is allowed and under which it differs, if one was seen: maybe not the least.
     Open(usize, Option<Vec<bool>>),
     /// It gave up before any output, at the question whether the assumption allows an assignment.
     Unasked,
@@ -51,8 +51,9 @@ impl Conflicts {
         self.each.min(self.all)
     }
 
-    /// What each part of the outputs but the first may have, where so many threads take a part each and the first may have these: all
-    /// parts together no more than twice as many, and each no more than a single output.
+    /// What each part of the outputs but the first may have, where so many threads take a part each
+    /// and the first may have these: all parts together no more than twice as many, and each no
+    /// more than a single output.
     pub(crate) fn part(&self, threads: u32) -> Conflicts {
         let all = self.all / threads.max(1) as u64;
         Conflicts {
@@ -74,18 +75,21 @@ pub struct Terms {
     pub every: bool,
     /// What the searches may have.
     pub conflicts: Conflicts,
-    /// So many outputs are asked for side by side, each in a thread of its own, or in this one where no thread can be started.
+    /// So many outputs are asked for side by side, each in a thread of its own, or in this one
+    /// where no thread can be started.
     pub threads: u32,
 }
 
 impl Terms {
-    /// So many outputs are asked for at once: one for each thread, or where each is looked for, more.
+    /// So many outputs are asked for at once: one for each thread, or where each is looked for,
+    /// more.
     fn at_once(&self) -> usize {
         let each = if self.every { IN_TURN } else { 1 };
         (self.threads as usize).saturating_mul(each)
     }
 
-    /// What the outputs may take that are asked for at once, with so much work beside the conflicts.
+    /// What the outputs may take that are asked for at once, with so much work beside the
+    /// conflicts.
     fn share(&self, work: u64) -> Share {
         Share {
             conflicts: self.conflicts,
@@ -105,8 +109,8 @@ struct Course {
 }
 
 #[tactic(auto, using(crate::proofs::AskingLaws::lacks_root))]
-/// The literal that is true where the assumption allows the inputs' values: always, if there is none. None where its step has
-/// no literal.
+/// The literal that is true where the assumption allows the inputs' values: always, if there is
+/// none. None where its step has no literal.
 fn allowed_literal(steps: &Steps<'_>, sweep: &Sweep, literals: &[Option<u32>]) -> Option<u32>
     requires { IsInside steps.now sweep.now literals.now }
     ensures allowed { IfSome result (SaysAllowed steps.now.pair sweep.now) }
@@ -123,8 +127,8 @@ fn allowed_literal(steps: &Steps<'_>, sweep: &Sweep, literals: &[Option<u32>]) -
 }
 
 #[tactic(auto, using(crate::proofs::AskingLaws::lacks_first, crate::proofs::AskingLaws::lacks_second))]
-/// The literal that is true where an output differs and the assumption allows it, or none where its steps have no literals.
-/// Fails where memory is refused.
+/// The literal that is true where an output differs and the assumption allows it, or none where its
+/// steps have no literals. Fails where memory is refused.
 pub(crate) fn difference_literal(
     steps: &Steps<'_>,
     sweep: &mut Sweep,
@@ -152,7 +156,8 @@ pub(crate) fn difference_literal(
     Ok(Some(literal))
 }
 
-/// Variables and their values under which simulation saw the literal true: none where it didn't. Nothing is promised of it.
+/// Variables and their values under which simulation saw the literal true: none where it didn't.
+/// Nothing is promised of it.
 pub(crate) fn seen_true(alloc: Global, sweep: &mut Sweep, literal: u32) -> Vec<(u32, bool)>
     requires { IsWithin sweep.old literal }
     ensures { sweep.new ≡ sweep.old }
@@ -164,8 +169,8 @@ pub(crate) fn seen_true(alloc: Global, sweep: &mut Sweep, literal: u32) -> Vec<(
     }
 }
 
-/// The work that is left for further outputs, where so much was there before a search, and so much behind it: a difference that is told
-/// of is worth its work.
+/// The work that is left for further outputs, where so much was there before a search, and so much
+/// behind it: a difference that is told of is worth its work.
 pub(crate) fn work_left(found: &Witness, before: u64, behind: u64) -> u64 {
     match found {
         Witness::Least(_) => before,
@@ -191,8 +196,8 @@ fn tells_vacuous(pair: &Pair<'_>, found: Witness) -> Option<bool>
     }
 }
 
-/// Whether no assignment is allowed, where a literal of the graph says which are, by a search with so many conflicts: none where
-/// it gave up. Fails where memory is refused.
+/// Whether no assignment is allowed, where a literal of the graph says which are, by a search with
+/// so many conflicts: none where it gave up. Fails where memory is refused.
 fn is_never_allowed(
     alloc: Global,
     pair: &Pair<'_>,
@@ -222,8 +227,8 @@ fn is_never_allowed(
     Ok(tells_vacuous(pair, found))
 }
 
-/// The next outputs from one on that are chosen and not marked, at most so many, where these answers are there of later ones. Fails
-/// where memory is refused.
+/// The next outputs from one on that are chosen and not marked, at most so many, where these
+/// answers are there of later ones. Fails where memory is refused.
 fn open_outputs(
     alloc: Global,
     pair: &Pair<'_>,
@@ -251,8 +256,9 @@ fn open_outputs(
     Ok(open)
 }
 
-/// Notes the least assignment of an output, if it was found, for those that are asked for after it, in place of the first one where
-/// no more would be tried. Where memory is refused for it nothing is noted.
+/// Notes the least assignment of an output, if it was found, for those that are asked for after it,
+/// in place of the first one where no more would be tried. Where memory is refused for it nothing
+/// is noted.
 pub(crate) fn note(earlier: &mut Vec<Vec<bool>>, found: &Witness) {
     if let Witness::Least(values) = found {
         if let Ok(values) = values.clone() {
@@ -264,8 +270,8 @@ pub(crate) fn note(earlier: &mut Vec<Vec<bool>>, found: &Witness) {
     }
 }
 
-/// What was found ahead of this output, if anything was: where it gave up with fewer conflicts than this one may have, nothing was. What
-/// was found of later ones stays.
+/// What was found ahead of this output, if anything was: where it gave up with fewer conflicts than
+/// this one may have, nothing was. What was found of later ones stays.
 fn next_found(
     pair: &Pair<'_>,
     ahead: &mut Vec<Answer>,
@@ -298,10 +304,11 @@ pub(crate) fn mark(alike: &mut Alike, output: usize)
 }
 
 impl<'a> Inside<'a> {
-    /// The least assignment that is allowed and under which an output differs, in lexicographic order over the first netlist's
-    /// inputs, 0 before 1, by a search with so many conflicts, which are counted down; or that it differs under none. `output` is
-    /// its position in the first netlist. Nothing is found any more once all such searches have done as much work beside their
-    /// conflicts as the graph's size allows. Fails where memory is refused.
+    /// The least assignment that is allowed and under which an output differs, in lexicographic
+    /// order over the first netlist's inputs, 0 before 1, by a search with so many conflicts, which
+    /// are counted down; or that it differs under none. `output` is its position in the first
+    /// netlist. Nothing is found any more once all such searches have done as much work beside
+    /// their conflicts as the graph's size allows. Fails where memory is refused.
     pub fn search_output(
         &mut self,
         alloc: Global,
@@ -326,8 +333,8 @@ impl<'a> Inside<'a> {
         Ok(answer.witness)
     }
 
-    /// Whether the assumption allows no assignment, by a search with so many conflicts: none where it gave up. Without an
-    /// assumption each is allowed. Fails where memory is refused.
+    /// Whether the assumption allows no assignment, by a search with so many conflicts: none where
+    /// it gave up. Without an assumption each is allowed. Fails where memory is refused.
     pub fn allows_none(&mut self, alloc: Global, conflicts: u64) -> Result<Option<bool>, AllocError>
         ensures pair { self.new ≡ self.old }
         ensures found { IfOk result (λ found. IfSome found (TellsVacuous self.old)) }
@@ -363,8 +370,8 @@ impl<'a> Inside<'a> {
         ask_all(rt, subject, &questions, &self.earlier, share, terms.threads)
     }
 
-    /// Notes what is found of the next outputs from one on that are chosen and not marked, up to those of which it is known. Fails where
-    /// memory is refused.
+    /// Notes what is found of the next outputs from one on that are chosen and not marked, up to
+    /// those of which it is known. Fails where memory is refused.
     fn look_ahead<R: Threads + Sync>(
         &mut self,
         rt: &R,
@@ -386,7 +393,8 @@ impl<'a> Inside<'a> {
         Ok(())
     }
 
-    /// What was found of an output ahead of others, if anything was: the conflicts and the work of that are taken.
+    /// What was found of an output ahead of others, if anything was: the conflicts and the work of
+    /// that are taken.
     fn found_ahead(&mut self, output: usize, course: &mut Course) -> Option<Witness>
         requires { All (IsAnswerOf self.old) course.old.ahead.items }
         ensures pair { self.new ≡ self.old }
@@ -400,8 +408,8 @@ impl<'a> Inside<'a> {
         Some(answer.witness)
     }
 
-    /// What is found of an output by a search with as many conflicts as the next one may have, which are taken. Fails where memory
-    /// is refused.
+    /// What is found of an output by a search with as many conflicts as the next one may have,
+    /// which are taken. Fails where memory is refused.
     fn search_next(
         &mut self,
         alloc: Global,
@@ -419,9 +427,10 @@ impl<'a> Inside<'a> {
         Ok(found)
     }
 
-    /// What is found of an output: with several threads the next ones are asked for beside it, and what is found of these is kept. Where
-    /// the search before gave up it is asked for alone: should this one give up too, what is found of others is of no use. Fails where
-    /// memory is refused.
+    /// What is found of an output: with several threads the next ones are asked for beside it, and
+    /// what is found of these is kept. Where the search before gave up it is asked for alone:
+    /// should this one give up too, what is found of others is of no use. Fails where memory is
+    /// refused.
     fn next_witness<R: Threads + Sync>(
         &mut self,
         rt: &R,
@@ -449,9 +458,10 @@ impl<'a> Inside<'a> {
         self.search_next(alloc, output, &mut course.terms.conflicts)
     }
 
-    /// The chosen outputs that differ, with their least assignments, where some assignment is allowed: all of them, or the first
-    /// alone. Outputs that are marked are not asked about, and those that never differ become marked. The watch is told of each
-    /// output. Fails where memory is refused.
+    /// The chosen outputs that differ, with their least assignments, where some assignment is
+    /// allowed: all of them, or the first alone. Outputs that are marked are not asked about, and
+    /// those that never differ become marked. The watch is told of each output. Fails where memory
+    /// is refused.
     fn search_each<R: Threads + Sync, P: Progress<R>>(
         &mut self,
         rt: &R,
@@ -495,9 +505,10 @@ impl<'a> Inside<'a> {
         Ok(Searched::Found(Outcome::Compared(found)))
     }
 
-    /// What the comparison of the pair has to find, by searches on such terms: each chosen output that differs, or the first; or
-    /// `Vacuous`, where the assumption allows no assignment. Outputs that are marked are not asked about, and those that never differ
-    /// become marked. The watch is told of each output. Fails where memory is refused.
+    /// What the comparison of the pair has to find, by searches on such terms: each chosen output
+    /// that differs, or the first; or `Vacuous`, where the assumption allows no assignment. Outputs
+    /// that are marked are not asked about, and those that never differ become marked. The watch is
+    /// told of each output. Fails where memory is refused.
     pub fn search_outputs<R: Threads + Sync, P: Progress<R>>(
         &mut self,
         rt: &R,

@@ -10,7 +10,8 @@ use eqc_graph::Graph;
 use std::alloc::AllocError;
 use std::process::Abort;
 
-/// The conjunction of the first two variables, whether just one of them is true, and whether that is so and the third one is true.
+/// The conjunction of the first two variables, whether just one of them is true, and whether that
+/// is so and the third one is true.
 const BOTH: u32 = 12;
 
 const DIFFER: u32 = 8;
@@ -20,8 +21,8 @@ const PASSED: u32 = 14;
 /// A case: its name, the literals of a clause or of assumptions, and hints.
 type Case = (&'static str, &'static [u32], &'static [Hint]);
 
-/// Where neither of the first two variables is true, they aren't both, they don't differ, nothing is passed, and so there is no
-/// carry.
+/// Where neither of the first two variables is true, they aren't both, they don't differ, nothing
+/// is passed, and so there is no carry.
 #[rattlefmt::skip]
 const NEITHER: &[Hint] = &[Gate { node: 6, side: 0 }, Gate { node: 4, side: 0 }, Gate { node: 7, side: 0 }, Gate { node: 8, side: 2 }];
 
@@ -144,8 +145,8 @@ enum Turn {
     GiveUp(u32),
 }
 
-/// What it tells: the number of what it learned, or of how many literals the clause with the number is that it gave up, and
-/// whether it was shown.
+/// What it tells: the number of what it learned, or of how many literals the clause with the number
+/// is that it gave up, and whether it was shown.
 type Told = (bool, u32);
 
 /// What a store tells of one thing that it is to do.
@@ -173,7 +174,8 @@ fn told(
     }
 }
 
-/// By clauses that were learned before, nothing is carried where neither of the first two variables is true.
+/// By clauses that were learned before, nothing is carried where neither of the first two variables
+/// is true.
 const BY_CLAUSES: &[Hint] = &[Clause(0), Clause(1), Clause(2), Gate { node: 8, side: 2 }];
 
 /// What one store does in turn, and what it tells.

@@ -1,5 +1,5 @@
-//! What ends a test, which alone has the branches and the words of a row that doesn't hold: a test that has them itself is proved at
-//! each of its branches, with all that it holds there.
+//! What ends a test, which alone has the branches and the words of a row that doesn't hold: a test
+//! that has them itself is proved at each of its branches, with all that it holds there.
 
 use std::fmt::{Debug, Display};
 use std::process::Abort;

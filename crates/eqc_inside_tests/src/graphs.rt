@@ -14,7 +14,8 @@ pub(crate) const Y: u32 = 4;
 
 pub(crate) const Z: u32 = 6;
 
-/// Literals of `ADDER`: the sum of the variables, the complement of the carry, and that of the majority.
+/// Literals of `ADDER`: the sum of the variables, the complement of the carry, and that of the
+/// majority.
 pub(crate) const SUM: u32 = 10;
 
 pub(crate) const NO_CARRY: u32 = 16;
@@ -124,7 +125,8 @@ fn literals_have_the_values_of_their_nodes(rt: HostRuntime) -> Result<(), AllocE
     Ok(())
 }
 
-/// How many nodes there are, the literal of one more, which it is, and how many are left behind the first five.
+/// How many nodes there are, the literal of one more, which it is, and how many are left behind the
+/// first five.
 fn readings(
     rt: &(impl Abort + AllocGlobal),
     node: Node,

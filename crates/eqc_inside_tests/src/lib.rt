@@ -1,8 +1,9 @@
-//! The tests of what is asked inside of netlists: graphs, clauses that hints show, searches, graphs in which equal nodes are one, and
-//! least assignments of literals.
+//! The tests of what is asked inside of netlists: graphs, clauses that hints show, searches, graphs
+//! in which equal nodes are one, and least assignments of literals.
 //!
-//! - `graphs`, of `eqc_graph`, and the graphs that the others ask about; `clauses`, of `eqc_clause`; `questions`, of `eqc_search`;
-//!   `sweeps`, of `eqc_sweep`, and `teams`, the same by several threads; `witnesses`, least assignments, of `eqc_witness`
+//! - `graphs`, of `eqc_graph`, and the graphs that the others ask about; `clauses`, of
+//!   `eqc_clause`; `questions`, of `eqc_search`; `sweeps`, of `eqc_sweep`, and `teams`, the same by
+//!   several threads; `witnesses`, least assignments, of `eqc_witness`
 //! - `ends`, what ends a test
 #![tactic(auto)]
 

@@ -1,5 +1,5 @@
-//! Questions to the search, whose answers were worked out by hand: that it refutes what can't be, that the assignments that it
-//! finds are right, and that it keeps within its budget.
+//! Questions to the search, whose answers were worked out by hand: that it refutes what can't be,
+//! that the assignments that it finds are right, and that it keeps within its budget.
 
 use crate::ends::same;
 use crate::graphs::{ADDER, NO_CARRY, NO_MAJORITY, SUM, X, Y, Z, graph_of, value_of, values_of};
@@ -75,7 +75,8 @@ const MUCH: Budget = Budget {
     ordered_from: u64::MAX,
 };
 
-/// Whether all assumptions are true under an assignment of nodes' values, in which the others are false.
+/// Whether all assumptions are true under an assignment of nodes' values, in which the others are
+/// false.
 fn are_true(
     alloc: Global,
     graph: &Graph,
@@ -189,7 +190,8 @@ fn a_search_takes_what_it_spends_from_its_budget(rt: HostRuntime) {
     same(&rt, found, true, "the parities");
 }
 
-/// What one search answers of the parities anew, again, and where they agree, with the conflicts of the first two answers.
+/// What one search answers of the parities anew, again, and where they agree, with the conflicts of
+/// the first two answers.
 fn answers_again(
     graph: &Graph,
     search: &mut Search,
@@ -209,8 +211,8 @@ fn answers_again(
     Ok((answers, conflicts))
 }
 
-/// It has fewer conflicts where it is asked again, and its last assignment is right. It stands apart for its proof's sake: the graph and
-/// the search are let go in one exit.
+/// It has fewer conflicts where it is asked again, and its last assignment is right. It stands
+/// apart for its proof's sake: the graph and the search are let go in one exit.
 fn check_learning(
     rt: &(impl Abort + AllocGlobal),
     graph: &Graph,
@@ -232,8 +234,8 @@ fn what_was_learned_helps_with_the_next_question(rt: HostRuntime) -> Result<(), 
     check_learning(&rt, &graph, &mut search)
 }
 
-/// The values of the first two variables in what a search finds where not both may be true, and a decision on each begins with
-/// this value.
+/// The values of the first two variables in what a search finds where not both may be true, and a
+/// decision on each begins with this value.
 fn preferred(
     graph: &Graph,
     search: &mut Search,

@@ -1,4 +1,5 @@
-//! Graphs in which equal nodes are one: which gates get a literal that is there, and what is found of two literals.
+//! Graphs in which equal nodes are one: which gates get a literal that is there, and what is found
+//! of two literals.
 ghost use Rattle.std.specs.Prelude.{IfOk};
 ghost use Rattle.eqc_graph.specs.Graph.{IsWithin, Extends};
 
@@ -9,7 +10,8 @@ use std::alloc::{AllocError, Global};
 use std::process::Abort;
 use std::thread::Threads;
 
-/// A graph that a test owns. It stands here for the sake of proofs: a call in each exit in place of all that is let go.
+/// A graph that a test owns. It stands here for the sake of proofs: a call in each exit in place of
+/// all that is let go.
 pub(crate) struct Owned {
     pub(crate) sweep: Sweep,
 }
@@ -105,7 +107,8 @@ fn parities(
     Ok((x == y, found))
 }
 
-/// Parities: whether new nodes are asked about, the variables of both, conflicts, whether they have one literal, and what is found.
+/// Parities: whether new nodes are asked about, the variables of both, conflicts, whether they have
+/// one literal, and what is found.
 #[rattlefmt::skip]
 static PARITIES: &[(&str, bool, &[u32], &[u32], u64, bool, Found)] = &[
     ("made alike", false, FORTH, FORTH, 0, true, Found::Equal),
@@ -127,8 +130,8 @@ fn parities_are_told_apart_or_equal(rt: HostRuntime) -> Result<(), AllocError> {
     Ok(())
 }
 
-/// Three parities, of which the second has another variable less: by how many threads each is asked about beside that of all, with how
-/// many conflicts, and which are found equal.
+/// Three parities, of which the second has another variable less: by how many threads each is asked
+/// about beside that of all, with how many conflicts, and which are found equal.
 #[rattlefmt::skip]
 static TWINS: &[(&str, u32, u64, &[usize])] = &[
     ("one thread", 1, 10_000, &[0, 2]),
@@ -160,7 +163,8 @@ fn places_of(alloc: Global, twins: &[Twins]) -> Result<Vec<usize>, AllocError> {
     Ok(places)
 }
 
-/// The places of the parities that are found equal to that of all variables, in a graph that has none yet.
+/// The places of the parities that are found equal to that of all variables, in a graph that has
+/// none yet.
 fn equal_twins<R: Threads + Sync>(
     rt: &R,
     alloc: Global,
@@ -265,7 +269,8 @@ fn are_known(sweep: &mut Sweep) -> Result<[bool; 3], AllocError> {
     Ok([both == swapped, differ == negated(agree), both != differ])
 }
 
-/// Whether gates of a variable with itself, with its complement and with a constant are constants or the variable.
+/// Whether gates of a variable with itself, with its complement and with a constant are constants
+/// or the variable.
 fn are_plain(sweep: &mut Sweep) -> Result<[bool; 4], AllocError> {
     let x = sweep.input(1)?;
     let itself = sweep.and(x, x)?;
@@ -312,7 +317,8 @@ fn carries_and_parities(sweep: &mut Sweep) -> Result<[u32; 4], AllocError> {
     Ok([carry, majority, parity(sweep, FORTH)?, parity(sweep, BACK)?])
 }
 
-/// Whether of four literals of a graph the first two have one literal in a copy of it, and whether the others have.
+/// Whether of four literals of a graph the first two have one literal in a copy of it, and whether
+/// the others have.
 fn copied_alike<R: Threads + Sync>(
     rt: &R,
     alloc: Global,
@@ -330,7 +336,8 @@ fn copied_alike<R: Threads + Sync>(
     ))
 }
 
-/// The same of a carry and a majority, and of two parities, in a copy of their graph by so many threads, and how many nodes there are.
+/// The same of a carry and a majority, and of two parities, in a copy of their graph by so many
+/// threads, and how many nodes there are.
 fn copies<R: Threads + Sync>(
     rt: &R,
     alloc: Global,

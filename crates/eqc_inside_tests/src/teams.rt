@@ -1,4 +1,5 @@
-//! Graphs about which several threads ask: they are started, and what is found is what one thread finds.
+//! Graphs about which several threads ask: they are started, and what is found is what one thread
+//! finds.
 
 use crate::ends::same;
 use crate::sweeps::{new_sweep, parity};
@@ -8,8 +9,8 @@ use eqc_thread_testing::{Census, Lookout};
 use std::alloc::{AllocError, Global};
 use std::thread::Threads;
 
-/// So many parities are made twice, each over variables of its own: as many questions as are asked at once, four for each of sixteen
-/// threads.
+/// So many parities are made twice, each over variables of its own: as many questions as are asked
+/// at once, four for each of sixteen threads.
 const PARITIES: u32 = 64;
 
 /// Each is over so many, so that a question takes about a millisecond, and a thread lives for some.
@@ -32,7 +33,8 @@ enum Way {
     Twins,
 }
 
-/// What is found: the graph, the literals that nodes have in it which are copied, what copying them took, and the pairs that are equal.
+/// What is found: the graph, the literals that nodes have in it which are copied, what copying them
+/// took, and the pairs that are equal.
 #[derive(Drop)]
 struct Found {
     nodes: Vec<Node>,
@@ -209,7 +211,8 @@ fn first_unlike<R: Threads + Sync>(
     Ok(None)
 }
 
-/// Run with each start of a thread refused in turn, and all later ones, by `scripts/dev/refuse_memory copies`.
+/// Run with each start of a thread refused in turn, and all later ones, by
+/// `scripts/dev/refuse_memory copies`.
 #[test]
 fn several_threads_find_what_one_finds(rt: HostRuntime) {
     for (name, way) in WAYS {
@@ -217,7 +220,8 @@ fn several_threads_find_what_one_finds(rt: HostRuntime) {
     }
 }
 
-/// How many threads are to ask, and how many of them are to be seen at once: of sixteen the first may have ended as the last begin.
+/// How many threads are to ask, and how many of them are to be seen at once: of sixteen the first
+/// may have ended as the last begin.
 #[derive(Clone, Copy)]
 struct Team {
     workers: u32,
@@ -232,7 +236,8 @@ static TEAMS: &[Team] = &[
     Team { workers: 16, seen: 8 },
 ];
 
-/// Whether a team finds what this one thread found in each of some tries, in the last of which it is seen.
+/// Whether a team finds what this one thread found in each of some tries, in the last of which it
+/// is seen.
 fn are_seen_by<R: Threads + Sync>(
     rt: &R,
     alloc: Global,
@@ -265,7 +270,8 @@ fn are_seen<R: Census + Threads + Sync>(
     lookout.beside(rt, || are_seen_by(rt, alloc, way, team, alone, &lookout))
 }
 
-/// How many threads aren't seen that are to ask, or find something else than one, if there are such.
+/// How many threads aren't seen that are to ask, or find something else than one, if there are
+/// such.
 fn first_unseen<R: Census + Threads + Sync>(
     rt: &R,
     alloc: Global,

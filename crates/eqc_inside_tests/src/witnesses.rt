@@ -1,4 +1,5 @@
-//! Least assignments under which literals are true, worked out by hand, and what is found where the conflicts don't do.
+//! Least assignments under which literals are true, worked out by hand, and what is found where the
+//! conflicts don't do.
 ghost use Rattle.std.specs.Prelude.{IsTrue};
 ghost use Rattle.eqc_graph.specs.Graph.{IsBelow};
 
@@ -32,8 +33,9 @@ const Y: u32 = 4;
 
 const Z: u32 = 6;
 
-/// Three variables, and whether the first two differ, in the node with the literal 8; whether that differs from the third, in 10;
-/// whether neither of the first two is true, in 12; whether that is so and the first one is true, in 14.
+/// Three variables, and whether the first two differ, in the node with the literal 8; whether that
+/// differs from the third, in 10; whether neither of the first two is true, in 12; whether that is
+/// so and the first one is true, in 14.
 const NODES: &[Node] = &[
     Node::Input(0),
     Node::Input(1),
@@ -63,8 +65,8 @@ static CASES: &[Case] = &[
     ("what was seen is wrong", 8, &[0, 1, 2], &[(0, true), (1, true)], Found::Least(0b010)),
 ];
 
-/// The parity of seven variables, from the first one on and from the last one on; whether these differ; whether they don't and
-/// the first variable is false.
+/// The parity of seven variables, from the first one on and from the last one on; whether these
+/// differ; whether they don't and the first variable is false.
 const PARITIES: &[Node] = &[
     Node::Input(0),
     Node::Input(1),
@@ -193,8 +195,9 @@ fn witness_after(
     Ok(found_of(witness))
 }
 
-/// What is found of three variables and 6,000 nodes, each the conjunction of one of these and the node before: of the last node, or
-/// of the second variable. With it the conflicts that are left of 100, and what is left of so much work.
+/// What is found of three variables and 6,000 nodes, each the conjunction of one of these and the
+/// node before: of the last node, or of the second variable. With it the conflicts that are left of
+/// 100, and what is left of so much work.
 fn found_in_chain(
     rt: &(impl Abort + AllocGlobal),
     of_last: bool,

@@ -1,5 +1,6 @@
-//! How many bytes the text of a netlist may have: as many as the options say, of each netlist and of an assumption, while an order
-//! text has a limit of its own, and a refusal of the options beyond their range.
+//! How many bytes the text of a netlist may have: as many as the options say, of each netlist and
+//! of an assumption, while an order text has a limit of its own, and a refusal of the options
+//! beyond their range.
 
 use crate::ends::{holds_at, same};
 use eqc_check::{Options, Texts, options_fault, run};
@@ -48,7 +49,8 @@ fn netlist(alloc: Global, bytes: usize) -> Result<Vec<u8>, AllocError> {
     Ok(text)
 }
 
-/// How many bytes two netlists have, and an order text and an assumption, of which each may be missing.
+/// How many bytes two netlists have, and an order text and an assumption, of which each may be
+/// missing.
 type Sizes = (usize, usize, Option<usize>, Option<usize>);
 
 /// A netlist that may be missing.
@@ -117,7 +119,8 @@ fn reports_within(
     Ok(writes(rt, &given, limit, report))
 }
 
-/// The bytes of two netlists, an order text and an assumption, how many are allowed, and the report.
+/// The bytes of two netlists, an order text and an assumption, how many are allowed, and the
+/// report.
 #[rattlefmt::skip]
 static LIMITED: &[(Sizes, u32, &str)] = &[
     ((40, 40, None, None), 40, "equivalent;"),

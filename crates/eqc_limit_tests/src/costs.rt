@@ -1,5 +1,5 @@
-//! Texts whose author would like a run to be long, or a store to fill. That they are answered, and how, is tested here;
-//! what they cost is measured by scripts.
+//! Texts whose author would like a run to be long, or a store to fill. That they are answered, and
+//! how, is tested here; what they cost is measured by scripts.
 
 use crate::ends::same;
 use eqc_check::Options;
@@ -15,8 +15,9 @@ fn repeat(text: &mut String, part: &str, count: u32) -> Result<(), AllocError> {
     Ok(())
 }
 
-/// A main model of two instances, each of two instances, and so on, sixteen models below one another, and the head of
-/// the one below them, which has 131,072 instances; and an empty main model.
+/// A main model of two instances, each of two instances, and so on, sixteen models below one
+/// another, and the head of the one below them, which has 131,072 instances; and an empty main
+/// model.
 fn doubled(alloc: Global) -> Result<String, AllocError> {
     let models = doubling(alloc, 17)?;
     format!(in alloc; ".model f;.subckt m1;.subckt m1;.end;.model g;.end;{models}")
@@ -62,8 +63,8 @@ fn rows_of_each(alloc: Global) -> Result<String, AllocError> {
     Ok(text)
 }
 
-/// Two models of twenty inputs: a cover of 4,080 rows that ask for one value each, both values of each column among
-/// them, and the constant 1.
+/// Two models of twenty inputs: a cover of 4,080 rows that ask for one value each, both values of
+/// each column among them, and the constant 1.
 fn rows_of_one(alloc: Global) -> Result<String, AllocError> {
     let names = input_names(alloc, 20)?;
     let rows = rows_of_each(alloc)?;
@@ -121,7 +122,8 @@ fn bits_of(alloc: Global, number: u32) -> Result<String, AllocError> {
     Ok(bits)
 }
 
-/// Two models of eight inputs and 256 outputs, each true under one assignment in the first and never in the second.
+/// Two models of eight inputs and 256 outputs, each true under one assignment in the first and
+/// never in the second.
 fn ones_and_none(alloc: Global) -> Result<String, AllocError> {
     let inputs = input_names(alloc, 8)?;
     let mut outputs = String::new(alloc);

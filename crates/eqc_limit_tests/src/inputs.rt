@@ -1,5 +1,5 @@
-//! How many inputs may be compared: as many as the options say, of each netlist and of an assumption, and a refusal of the options
-//! beyond their range.
+//! How many inputs may be compared: as many as the options say, of each netlist and of an
+//! assumption, and a refusal of the options beyond their range.
 
 use crate::ends::{holds_at, same};
 use eqc_check::{Options, Texts, options_fault, run};

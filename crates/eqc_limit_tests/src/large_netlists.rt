@@ -1,5 +1,6 @@
-//! Netlists of very many models, signals or covers, that stand below one another: they are read, flattened and compared without a
-//! recursion that would be as deep, and one signal more than there may be is refused.
+//! Netlists of very many models, signals or covers, that stand below one another: they are read,
+//! flattened and compared without a recursion that would be as deep, and one signal more than there
+//! may be is refused.
 
 use crate::ends::same;
 use eqc_run_testing::{TWO, reports_on};
@@ -8,7 +9,8 @@ use std::alloc::{AllocError, Global};
 /// How many models stand below one another.
 const MODELS: u32 = 100_000;
 
-/// A main model with an instance of `m1`, each model with one of the next, the last one empty; and an empty main model.
+/// A main model with an instance of `m1`, each model with one of the next, the last one empty; and
+/// an empty main model.
 fn chain_of_models(alloc: Global) -> Result<String, AllocError> {
     let mut text = String::from_str(alloc, ".model f;.subckt m1;.end;.model g;.end;")?;
     for k in 1..MODELS {

@@ -1,4 +1,5 @@
-//! The tests of the machine under diagrams that threads share: its words, its operations and its steps.
+//! The tests of the machine under diagrams that threads share: its words, its operations and its
+//! steps.
 //!
 //! - `words` and `operations`, of `eqc_tree`; `machine`, of `eqc_core`
 //! - `ends`, what ends a test

@@ -1,7 +1,9 @@
-//! The machine under the diagrams: cores of several sizes, lists of steps, and what is read after them. The readings of the
-//! lists by chance are those of a plain program that shares nothing with the machine.
+//! The machine under the diagrams: cores of several sizes, lists of steps, and what is read after
+//! them. The readings of the lists by chance are those of a plain program that shares nothing with
+//! the machine.
 //!
-//! No core is held where something is asserted: what is read of it is a few numbers, or why there is none.
+//! No core is held where something is asserted: what is read of it is a few numbers, or why there
+//! is none.
 ghost use Rattle.std.specs.Prelude.{◌≡◌, IfOk};
 
 use crate::ends::same;
@@ -15,7 +17,8 @@ const WORD: u64 = (1 << 60) + (2 << 40) + (2 << 20) + 2;
 /// Steps, each with its worker.
 type Steps = &'static [(u32, Step)];
 
-/// A case: its name, two lists of steps, and what is read after both, or which step the machine refuses.
+/// A case: its name, two lists of steps, and what is read after both, or which step the machine
+/// refuses.
 type Played<W> = (&'static str, Steps, Steps, Result<W, ReplayFault>);
 
 /// The events of both lists of steps.
@@ -68,8 +71,8 @@ fn sizes_are_refused(rt: HostRuntime) {
     }
 }
 
-/// What is read of a core with 2 workers, 4 nodes and 1 cell: the cell, what worker 1 announces, the count of slot 2, and
-/// how often worker 0 holds it and has it retired.
+/// What is read of a core with 2 workers, 4 nodes and 1 cell: the cell, what worker 1 announces,
+/// the count of slot 2, and how often worker 0 holds it and has it retired.
 fn readings(core: &Core) -> [u64; 5]
     requires { core.now.sizes ≡ record { workers = 2; announcements = 4; names = 6; cells = 1; variables = 4 } }
 {
@@ -234,7 +237,8 @@ fn a_name_that_the_last_word_confirms_stays(rt: HostRuntime) {
     check_readings(&rt, AFTER_LAST_WORD);
 }
 
-/// The name that was missed is given back, its slot taken back, and claimed: the announcement of it isn't confirmed.
+/// The name that was missed is given back, its slot taken back, and claimed: the announcement of it
+/// isn't confirmed.
 const TAKEN_BACK: Steps = &[
     (0, Step::Down(2)),
     (0, Step::Down(2)),

@@ -1,4 +1,5 @@
-//! The numbers of operations and stops: tags stand in the words of cached results, codes in reports.
+//! The numbers of operations and stops: tags stand in the words of cached results, codes in
+//! reports.
 
 use crate::ends::same;
 use eqc_tree::{Op, Stop};

@@ -1,4 +1,5 @@
-//! The layout of a node and of a cached result in a word. The numbers are worked out by hand from the places of the bits.
+//! The layout of a node and of a cached result in a word. The numbers are worked out by hand from
+//! the places of the bits.
 
 use crate::ends::same;
 use eqc_tree::{Op, pack_cell, pack_node, unpack_cell, unpack_node};

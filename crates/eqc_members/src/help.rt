@@ -7,8 +7,9 @@ use crate::ticket::{Drawer, Words, drawn};
 use eqc_tree::{Diagrams, References};
 use std::sync::Wait;
 
-/// Helps with the next operation that another member offers, and says whether one came before too many asks were in vain,
-/// all members had drawn their last, or one stopped. It is for the diagrams to pause where something may come yet.
+/// Helps with the next operation that another member offers, and says whether one came before too
+/// many asks were in vain, all members had drawn their last, or one stopped. It is for the diagrams
+/// to pause where something may come yet.
 fn help_once<R, D: Diagrams<R>>(
     rt: &R,
     task: &Task<'_>,
@@ -20,7 +21,8 @@ fn help_once<R, D: Diagrams<R>>(
     ensures kept { Keeps (D.holding diagrams.old) (D.holding diagrams.new) }
 {
     for _ in 0..task.patience.asks() {
-        // A member draws its last when it has compared all others, so then there is nobody who could offer anything.
+        // A member draws its last when it has compared all others, so then there is nobody who
+        // could offer anything.
         if drawn(words, seat) >= task.draws || task.patience.has_stopped() {
             return false;
         }
@@ -31,8 +33,8 @@ fn help_once<R, D: Diagrams<R>>(
     false
 }
 
-/// Helps with operations that other members offer, until all have compared what they drew, one stopped, or none has come for
-/// as long as members are patient. What is held is as before.
+/// Helps with operations that other members offer, until all have compared what they drew, one
+/// stopped, or none has come for as long as members are patient. What is held is as before.
 ///
 /// Nothing says how many come, so the call may wait: it returns once the others offer nothing more.
 pub(crate) fn help_others<R: Wait, D: Diagrams<R>>(

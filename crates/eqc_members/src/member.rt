@@ -11,7 +11,8 @@ use eqc_pair::Pair;
 use eqc_tree::{Diagrams, References, Stop};
 use std::alloc::Global;
 
-/// The diagrams of a member, from its first draw to its last, and those of steps that later outputs need.
+/// The diagrams of a member, from its first draw to its last, and those of steps that later outputs
+/// need.
 pub(crate) struct Member<D: References> {
     pub diagrams: D,
     pub kept: StepDiagrams<D::Ref>,
@@ -33,7 +34,8 @@ pub(crate) fn begin<D: References + Drop>(
     }
 }
 
-/// The least assignment under which an output differs that is not marked. A member's outputs come in rising order.
+/// The least assignment under which an output differs that is not marked. A member's outputs come
+/// in rising order.
 pub(crate) fn compare<R, D: Diagrams<R>>(
     rt: &R,
     alloc: Global,

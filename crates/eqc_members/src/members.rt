@@ -1,5 +1,5 @@
-//! All chosen outputs of a pair, compared by members that run in threads of their own: each output is drawn once, and those that
-//! differ are the same whichever member drew them.
+//! All chosen outputs of a pair, compared by members that run in threads of their own: each output
+//! is drawn once, and those that differ are the same whichever member drew them.
 ghost use Rattle.std.specs.Prelude.{◌≡◌, ◌≤◌, length, vec_len, IfOk};
 ghost use Rattle.std.specs.List.{All};
 ghost use Rattle.eqc_tree.specs.Holding.{Holding};
@@ -135,18 +135,21 @@ fn first_allows_none<R, D: Diagrams<R>>(
     allows_none(rt, alloc, &mut members[0], pair)
 }
 
-/// Compares the chosen outputs of a pair by these members, of which each runs in a thread of its own: those that differ, by their
-/// positions and in their order, each with its least assignment; without the request's `every` the first of them alone. Whether the
-/// assumption allows none is asked of the first member, before anything is drawn.
+/// Compares the chosen outputs of a pair by these members, of which each runs in a thread of its
+/// own: those that differ, by their positions and in their order, each with its least assignment;
+/// without the request's `every` the first of them alone. Whether the assumption allows none is
+/// asked of the first member, before anything is drawn.
 ///
-/// There is at least one member, and each has at least as many variables as the pair has inputs; they are consumed. Members
-/// beyond the first 4,294,967,295 are let go, since 32 bits number those that compare. What the request says is known of the pair
-/// need not be compared. The gate is told of each comparison before it begins. Without `every` a member that has found a difference
-/// compares no later output. One that has drawn its last helps the others, for as long as the request's patience lasts.
-/// The call may wait, since it waits for all members, and for the gate.
+/// There is at least one member, and each has at least as many variables as the pair has inputs;
+/// they are consumed. Members beyond the first 4,294,967,295 are let go, since 32 bits number those
+/// that compare. What the request says is known of the pair need not be compared. The gate is told
+/// of each comparison before it begins. Without `every` a member that has found a difference
+/// compares no later output. One that has drawn its last helps the others, for as long as the
+/// request's patience lasts. The call may wait, since it waits for all members, and for the gate.
 ///
-/// The errors are those of the members' diagrams, `NodeLimit` (71), `Memory` (72) and `References` (73); `Memory` also where memory is
-/// refused; and `Threads` (74) where a thread could not be started. Where several came it is one of them.
+/// The errors are those of the members' diagrams, `NodeLimit` (71), `Memory` (72) and `References`
+/// (73); `Memory` also where memory is refused; and `Threads` (74) where a thread could not be
+/// started. Where several came it is one of them.
 pub fn compare_by_members<
     R: Threads + Wait + Sync,
     D: Diagrams<R> + Send + Drop,

@@ -12,7 +12,8 @@ const VAIN_ASKS: u64 = 1_000;
 pub struct Patience {
     /// So often in succession a member asks in vain before it ends.
     asks: u64,
-    /// Whether a member stopped, or a thread could not be started: then some numbers are never drawn.
+    /// Whether a member stopped, or a thread could not be started: then some numbers are never
+    /// drawn.
     stopped: AtomicCell<bool>,
 }
 
@@ -25,8 +26,9 @@ impl Patience {
         }
     }
 
-    /// That of workers with so many forks: without any nothing can come, and they ask once, by which they make room for
-    /// others. With some they ask as long as anybody compares, since the last outputs are often the largest.
+    /// That of workers with so many forks: without any nothing can come, and they ask once, by
+    /// which they make room for others. With some they ask as long as anybody compares, since the
+    /// last outputs are often the largest.
     pub fn of_forks(forks: u32) -> Patience {
         Patience {
             asks: if forks == 0 { 1 } else { u64::MAX },

@@ -1,4 +1,5 @@
-//! Members that draw outputs and compare them, each in a thread of its own, and what they give back.
+//! Members that draw outputs and compare them, each in a thread of its own, and what they give
+//! back.
 ghost use Rattle.std.specs.Prelude.{◌≡◌, ◌≢◌, ◌+◌, ◌<◌, ◌≤◌, IsTrue, length, vec_len, IfOk, IfErr};
 ghost use Rattle.std.specs.Thread.{IsSync, IsSend};
 ghost use Rattle.eqc_build.specs.Turns.{AreKept};
@@ -26,8 +27,8 @@ pub(crate) struct Share {
     pub verdicts: Vec<Verdict>,
 }
 
-/// What a member finds at an output that it drew. Where it knows of a difference before, that the output is equal or that it is
-/// not chosen, it need not compare.
+/// What a member finds at an output that it drew. Where it knows of a difference before, that the
+/// output is equal or that it is not chosen, it need not compare.
 fn finding<R, D: Diagrams<R>, G: Gate<R>>(
     comparison: &Comparison<'_, R, G>,
     worker: u32,
@@ -64,8 +65,9 @@ fn finding<R, D: Diagrams<R>, G: Gate<R>>(
     }
 }
 
-/// A member draws until its draw is no output. What it draws rises, so behind its first difference nothing that it draws can
-/// be the first of all, which it need not look at where that one is asked for alone.
+/// A member draws until its draw is no output. What it draws rises, so behind its first difference
+/// nothing that it draws can be the first of all, which it need not look at where that one is asked
+/// for alone.
 fn draw_all<R, D: Diagrams<R>, G: Gate<R>>(
     comparison: &Comparison<'_, R, G>,
     worker: u32,
@@ -100,8 +102,8 @@ fn draw_all<R, D: Diagrams<R>, G: Gate<R>>(
     Ok(Share { seat, verdicts })
 }
 
-/// All that one member does: it draws, compares, helps others, and gives its diagrams up. What it kept it gives back before
-/// it helps, so that what it holds takes no room from members that work.
+/// All that one member does: it draws, compares, helps others, and gives its diagrams up. What it
+/// kept it gives back before it helps, so that what it holds takes no room from members that work.
 fn work_alone<R: Wait, D: Diagrams<R> + Drop, G: Gate<R>>(
     comparison: &Comparison<'_, R, G>,
     worker: u32,
@@ -211,8 +213,8 @@ impl<'f> Promise<Result<Share, Stop>> for Pledge<'f> {
     ghost kept_by = { λ p r. IfOk r (λ s. IsShare (asked p.pair.value p.every) p.words.value.table_id p.members s.seat s.verdicts.items) };
 }
 
-/// The members are halved, one half on a new thread and one here, down to one. Where a thread can't be started, its half
-/// does not run, nor does this one.
+/// The members are halved, one half on a new thread and one here, down to one. Where a thread can't
+/// be started, its half does not run, nor does this one.
 #[cycle(members)]
 fn work<
     's,

@@ -1,8 +1,9 @@
 //! The ticket word: a table of one word, from which each number is drawn once.
 //!
-//! A seat stands for a number of members, at first for all. Before anything is drawn it is halved until each member has
-//! one of its own, so the members' draws past the last output are counted in advance, and the word can't wrap. When all
-//! seats have come back into one, that one has drawn each output once.
+//! A seat stands for a number of members, at first for all. Before anything is drawn it is halved
+//! until each member has one of its own, so the members' draws past the last output are counted in
+//! advance, and the word can't wrap. When all seats have come back into one, that one has drawn
+//! each output once.
 ghost use Rattle.std.specs.Prelude.{◌≡◌, ℕ, ◌+◌, ◌-◌, ◌<◌, [], IfOk};
 ghost use Rattle.eqc_members.specs.Ticket.{IsTicket, opening_view, drew, halved, half, both, spent, IsAbove, IsSeat, strangers, once_below, times};
 
@@ -10,7 +11,8 @@ use atomic_table::{Join, Play, Seat, Shared, Split, Table, TableRule};
 use std::alloc::{AllocError, Global};
 use std::collections::LinkedList;
 
-/// What a seat knows: how many members it stands for, and the numbers that were drawn. No value of it is made.
+/// What a seat knows: how many members it stands for, and the numbers that were drawn. No value of
+/// it is made.
 pub(crate) struct View {
     pub seats: u64,
     pub drawn: LinkedList<u64>,
@@ -108,7 +110,8 @@ pub(crate) fn take_in(words: &Words, seat: &mut Drawer, other: Drawer)
     words.join_seat::<TakingIn>(seat, other);
 }
 
-/// Ends the table: a seat that stands for all members has drawn the numbers below the answer, each once.
+/// Ends the table: a seat that stands for all members has drawn the numbers below the answer, each
+/// once.
 pub(crate) fn settle(table: TicketTable, seat: Drawer) -> u64
     requires own { IsSeat table.shared.table_id seat }
     requires all { seat.me.0.seats ≡ table.shared.key.seats }

@@ -26,7 +26,8 @@ pub(crate) struct Verdict {
 }
 
 impl Finding {
-    /// Whether nothing behind this output is to be told: it or one before it differs, and the first is asked for alone.
+    /// Whether nothing behind this output is to be told: it or one before it differs, and the first
+    /// is asked for alone.
     pub(crate) fn ends(&self, every: bool) -> bool
         ensures { result ≡ (not every && tells_difference self.now) }
     {
@@ -52,8 +53,8 @@ fn places(alloc: Global, outputs: usize) -> Result<Vec<Option<Finding>>, AllocEr
     Ok(row)
 }
 
-/// What was found, each at its output's place. No verdict is of another number or of an output that has one. Fails where
-/// memory is refused.
+/// What was found, each at its output's place. No verdict is of another number or of an output that
+/// has one. Fails where memory is refused.
 pub(crate) fn in_order(
     alloc: Global,
     pair: &Pair<'_>,
@@ -81,7 +82,8 @@ pub(crate) fn in_order(
     Ok(row)
 }
 
-/// The chosen outputs that differ, in their order, or the first of them alone. Fails where memory is refused.
+/// The chosen outputs that differ, in their order, or the first of them alone. Fails where memory
+/// is refused.
 pub(crate) fn told_of(
     alloc: Global,
     pair: &Pair<'_>,

@@ -1,4 +1,5 @@
-//! The drivers of all flat signals, with the columns of a cover kept once for all instances of its model.
+//! The drivers of all flat signals, with the columns of a cover kept once for all instances of its
+//! model.
 ghost use Rattle.std.specs.Prelude.{◌≡◌, ◌<◌, length, map, slice_index_or};
 ghost use Rattle.eqc_netlist.specs.Graph.{input};
 ghost use Rattle.eqc_netlist.specs.Drivers.{driver_of};
@@ -14,8 +15,8 @@ use crate::graph::Graph;
 use smallvec::SmallVec;
 use std::marker::Model;
 
-/// The driver of each flat signal. The columns of a cover are kept once for all instances of its model, by the number of
-/// the cover, as their places among the names of the model.
+/// The driver of each flat signal. The columns of a cover are kept once for all instances of its
+/// model, by the number of the cover, as their places among the names of the model.
 #[derive(Drop)]
 pub struct Drivers {
     stored: Vec<StoredDriver>,

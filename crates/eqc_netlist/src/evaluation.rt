@@ -1,4 +1,5 @@
-//! The values of a flat netlist's outputs under values of its inputs, by one pass over its signals in their order.
+//! The values of a flat netlist's outputs under values of its inputs, by one pass over its signals
+//! in their order.
 ghost use Rattle.std.specs.Prelude.{◌≡◌, ℕ, ◌<◌, false, length, map, IfOk, IfErr, slice_index, slice_index_or};
 ghost use Rattle.eqc_netlist.specs.Graph.{driver_at, driven, value_of};
 ghost use Rattle.eqc_netlist.specs.Evaluating.{values_of};
@@ -73,8 +74,8 @@ fn output_values(alloc: Global, flat: &Flat<'_>, inputs: &[bool]) -> Result<Vec<
     Ok(outputs)
 }
 
-/// The value of each output of a flat netlist, in its order, under these values of its inputs, in their order and one for
-/// each. Fails with 72 alone, where memory is refused.
+/// The value of each output of a flat netlist, in its order, under these values of its inputs, in
+/// their order and one for each. Fails with 72 alone, where memory is refused.
 pub fn eval(alloc: Global, flat: &Flat<'_>, values: &[bool]) -> Result<Vec<bool>, Fault>
     requires { length values.now ≡ length flat.now.inputs }
     ensures values { IfOk result (λ outputs. outputs.items ≡ map (value_of flat.now (values_of values.now)) flat.now.output_signals) }

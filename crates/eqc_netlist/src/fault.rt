@@ -1,4 +1,5 @@
-//! Why a netlist is refused, or could not be evaluated: the code of its hierarchy's first fault, or want of memory.
+//! Why a netlist is refused, or could not be evaluated: the code of its hierarchy's first fault, or
+//! want of memory.
 ghost use Rattle.std.specs.Prelude.{◌≡◌, nat_eq, position};
 ghost use Rattle.eqc_netlist.specs.Rule.{rule_code};
 
@@ -6,15 +7,16 @@ use crate::rule::{RULES, Rule};
 use std::alloc::AllocError;
 use thiserror::Error;
 
-/// Why a netlist is refused, or why its values could not be had: 21 to 30 for the first fault of the hierarchy below its
-/// main model, 72 for memory that was refused.
+/// Why a netlist is refused, or why its values could not be had: 21 to 30 for the first fault of
+/// the hierarchy below its main model, 72 for memory that was refused.
 #[derive(Debug, Clone, Copy, PartialEq, Eq, Error)]
 #[error("{} (code {code})", rule_of(.code))]
 pub struct Fault {
     pub code: u8,
 }
 
-/// Why one of two models of a library has no flat netlist: the first one's fault where it has one, whatever the second.
+/// Why one of two models of a library has no flat netlist: the first one's fault where it has one,
+/// whatever the second.
 #[derive(Debug, Clone, Copy, PartialEq, Eq)]
 pub enum FaultOfTwo {
     First(Fault),

@@ -1,4 +1,5 @@
-//! Flat netlists: signals in an order by dependency, each with its driver, its instance and its name.
+//! Flat netlists: signals in an order by dependency, each with its driver, its instance and its
+//! name.
 ghost use Rattle.std.specs.Prelude.{◌≡◌, ◌<◌, ◌≤◌, ◌-◌, length, slice_index_or, [], map};
 ghost use Rattle.eqc_netlist.specs.Graph.{driver_at, FollowsDrivers, IsFlat};
 ghost use Rattle.eqc_netlist.specs.Drivers.{driver_of};
@@ -103,7 +104,8 @@ impl<'a> Flat<'a> {
         }
     }
 
-    /// The key of the text, for tables that its names or what it says are looked up in. Nothing but their time depends on it.
+    /// The key of the text, for tables that its names or what it says are looked up in. Nothing but
+    /// their time depends on it.
     pub fn key(&self) -> Key {
         self.key
     }
@@ -140,8 +142,8 @@ impl<'a> Flat<'a> {
         self.steps.as_slice()
     }
 
-    /// What holds of every flat netlist, for a proof of its caller: it does nothing. A netlist's laws are known only
-    /// where a call states them.
+    /// What holds of every flat netlist, for a proof of its caller: it does nothing. A netlist's
+    /// laws are known only where a call states them.
     pub fn recall_laws(&self)
         ensures lawful { IsFlat self.now }
         ensures follows { FollowsDrivers self.now }
@@ -165,7 +167,8 @@ impl<'a> Flat<'a> {
         &self.rows[r as usize]
     }
 
-    /// The instance and the name of signal `s`, which is one of this netlist. Instance 0 is the main model.
+    /// The instance and the name of signal `s`, which is one of this netlist. Instance 0 is the
+    /// main model.
     pub fn signal(&self, s: u32) -> (u32, &[u8])
         requires { s < length self.now.drivers }
         ensures signal { (result.0, result.1.now) ≡ slice_index_or self.now.signals s (0, []) }
@@ -175,7 +178,8 @@ impl<'a> Flat<'a> {
         self.signals[s as usize]
     }
 
-    /// The parent of instance `i`, from 1 on, and the position of its `.subckt` there. The parent is an instance before it.
+    /// The parent of instance `i`, from 1 on, and the position of its `.subckt` there. The parent
+    /// is an instance before it.
     pub fn place(&self, i: u32) -> (u32, u32)
         requires some { 1 ≤ i }
         requires there { i ≤ length self.now.places }

@@ -1,10 +1,10 @@
-//! Keys of tables: what a text's names are looked up by depends on the whole text, so that none is chosen to stand in the way
-//! of others.
+//! Keys of tables: what a text's names are looked up by depends on the whole text, so that none is
+//! chosen to stand in the way of others.
 
 use std::hash::{BuildHasher, DefaultHasher, FoldHasher, Hasher};
 
-/// What the tables of a text's names are hashed with: a number that is made of all of its bytes. Which one it is changes
-/// nothing but the time of a look-up.
+/// What the tables of a text's names are hashed with: a number that is made of all of its bytes.
+/// Which one it is changes nothing but the time of a look-up.
 #[derive(Clone, Copy)]
 pub struct Key {
     initial: FoldHasher,

@@ -1,14 +1,18 @@
-//! Flat netlists: numbered signals, each with what drives it, their values, and the names of inputs and outputs. What reads a text or
-//! flattens a hierarchy stands beside what compares netlists, and both stand on this.
+//! Flat netlists: numbered signals, each with what drives it, their values, and the names of inputs
+//! and outputs. What reads a text or flattens a hierarchy stands beside what compares netlists, and
+//! both stand on this.
 //!
 //! What a flat netlist is is said in `specs/Graph.antt`. Read the modules in this order:
 //!
-//! - `flat`, a netlist, with lists of its `signals`; `drivers`, what drives each signal; in it `driver`, how one is shown, and
-//!   `stored_driver`, how it is kept; `graph`, what is asked for an order of them
+//! - `flat`, a netlist, with lists of its `signals`; `drivers`, what drives each signal; in it
+//!   `driver`, how one is shown, and `stored_driver`, how it is kept; `graph`, what is asked for an
+//!   order of them
 //! - `evaluation`, values
-//! - `rows`, those of a cover and what they mean; `name`, how one name is stored, and `key` and `pieces`, how it is looked up;
-//!   `name_set`, names with their places, by their `name_bytes` and a `near_key`
-//! - `text_rule` and `rule`, what a text and a hierarchy are refused for; `refusal` and `fault`, that one is, or that memory was refused
+//! - `rows`, those of a cover and what they mean; `name`, how one name is stored, and `key` and
+//!   `pieces`, how it is looked up; `name_set`, names with their places, by their `name_bytes` and
+//!   a `near_key`
+//! - `text_rule` and `rule`, what a text and a hierarchy are refused for; `refusal` and `fault`,
+//!   that one is, or that memory was refused
 #![tactic(auto)]
 
 mod drivers;

@@ -20,8 +20,9 @@ const FEW: usize = 8;
 #[derive(Drop)]
 pub struct NameSet<'a> {
     names: IndexSet<NameBytes<'a>, NearKey>,
-    /// Whether the last name that was looked up stood behind the place that was near: only then the next one is looked for
-    /// there first, so that names in no order don't pay for it. Nothing but the time depends on it.
+    /// Whether the last name that was looked up stood behind the place that was near: only then the
+    /// next one is looked for there first, so that names in no order don't pay for it. Nothing but
+    /// the time depends on it.
     in_row: bool,
 }
 
@@ -41,7 +42,8 @@ fn place_among(names: &[NameBytes<'_>], name: &[u8]) -> Option<usize>
 }
 
 impl<'a> NameSet<'a> {
-    /// A set without names, which are looked up by a key: that of the texts that they come from, or of themselves.
+    /// A set without names, which are looked up by a key: that of the texts that they come from, or
+    /// of themselves.
     pub fn new(alloc: Global, key: Key) -> NameSet<'a>
         ensures { result ≡ [] }
     {
@@ -81,7 +83,8 @@ impl<'a> NameSet<'a> {
         self.in_row && self.stands_at(name, place)
     }
 
-    /// Puts the name of these bytes in, unless it is there, and answers whether it was not. Fails where memory is refused.
+    /// Puts the name of these bytes in, unless it is there, and answers whether it was not. Fails
+    /// where memory is refused.
     pub fn insert_bytes(&mut self, name: &'a [u8]) -> Result<bool, AllocError>
         ensures fresh { IfOk result (λ fresh. fresh ≡ not (is_named self.old name.now)) }
         ensures names { OnOk result (self.new ≡ with_name self.old name.now) }
@@ -93,7 +96,8 @@ impl<'a> NameSet<'a> {
         Ok(fresh)
     }
 
-    /// Puts a name in, unless it is there, and answers whether it was not. Fails where memory is refused.
+    /// Puts a name in, unless it is there, and answers whether it was not. Fails where memory is
+    /// refused.
     pub fn insert(&mut self, name: &'a Name) -> Result<bool, AllocError>
         ensures fresh { IfOk result (λ fresh. fresh ≡ not (is_named self.old name.now)) }
         ensures names { OnOk result (self.new ≡ with_name self.old name.now) }
@@ -102,8 +106,8 @@ impl<'a> NameSet<'a> {
         Ok(fresh)
     }
 
-    /// Puts a name in, unless it is there, and answers where it stands. Fails where memory is refused, and where there are
-    /// more names than memory has room for.
+    /// Puts a name in, unless it is there, and answers where it stands. Fails where memory is
+    /// refused, and where there are more names than memory has room for.
     pub fn place(&mut self, name: &'a Name) -> Result<u32, AllocError>
         ensures names { OnOk result (self.new ≡ with_name self.old name.now) }
         ensures place { IfOk result (λ place. (later : List (List ℕ)) → place ≡ place_in (fold with_name self.new later) name.now) }
@@ -119,8 +123,8 @@ impl<'a> NameSet<'a> {
         Ok(place as u32)
     }
 
-    /// Does what `place` does, and sooner where the name stands at one of two places, which may be any numbers, or behind
-    /// the first of them.
+    /// Does what `place` does, and sooner where the name stands at one of two places, which may be
+    /// any numbers, or behind the first of them.
     pub fn place_near(&mut self, name: &'a Name, near: u32, last: u32) -> Result<u32, AllocError>
         ensures names { OnOk result (self.new ≡ with_name self.old name.now) }
         ensures place { IfOk result (λ place. (later : List (List ℕ)) → place ≡ place_in (fold with_name self.new later) name.now) }
@@ -185,7 +189,8 @@ impl<'a> NameSet<'a> {
         }
     }
 
-    /// Does what `position` does, and sooner where the name stands at a place, which may be any number.
+    /// Does what `position` does, and sooner where the name stands at a place, which may be any
+    /// number.
     pub fn position_near(&self, name: &[u8], near: u32) -> Option<usize>
         ensures { result ≡ position (λ other. bytes_eq name.now other) self.now }
     {

@@ -1,5 +1,6 @@
-//! Hashes of names, by which those that differ in the lowest bits of their last byte alone stand in one group of a table: of
-//! names that are numbered, eight are found where memory was waited for once.
+//! Hashes of names, by which those that differ in the lowest bits of their last byte alone stand in
+//! one group of a table: of names that are numbered, eight are found where memory was waited for
+//! once.
 ghost use Rattle.std.specs.Prelude.{◌≡◌};
 ghost use Rattle.std.specs.Hash.FoldHasher as folding;
 ghost use Rattle.eqc_netlist.specs.NearHash.{near_write, near_finish};
@@ -7,14 +8,16 @@ ghost use Rattle.eqc_netlist.specs.NearHash.{near_write, near_finish};
 use crate::key::Key;
 use std::hash::{BuildHasher, FoldHasher, Hasher};
 
-/// What a table of names is hashed with, made of the key of their text. Nothing but time depends on it.
+/// What a table of names is hashed with, made of the key of their text. Nothing but time depends on
+/// it.
 #[derive(Clone, Copy)]
 pub(crate) struct NearKey {
     initial: FoldHasher,
 }
 
-/// A hasher of names. It hashes all bytes but one that is written by itself, the last of a name. Three bits of that byte choose
-/// only a tag in a group, so that no more than eight names share a place that the key didn't choose for each.
+/// A hasher of names. It hashes all bytes but one that is written by itself, the last of a name.
+/// Three bits of that byte choose only a tag in a group, so that no more than eight names share a
+/// place that the key didn't choose for each.
 #[derive(Clone, Copy)]
 pub(crate) struct NearHasher {
     folded: FoldHasher,

@@ -1,5 +1,6 @@
-//! Bytes in pieces, as tables hash them. A hasher multiplies pieces of up to eight bytes, each joined with what came before it,
-//! by numbers that no text has a part in; of longer ones some bytes would be a factor, and could make the others not count.
+//! Bytes in pieces, as tables hash them. A hasher multiplies pieces of up to eight bytes, each
+//! joined with what came before it, by numbers that no text has a part in; of longer ones some
+//! bytes would be a factor, and could make the others not count.
 ghost use Rattle.std.specs.Prelude.{◌≡◌};
 ghost use Rattle.std.specs.List.{fold};
 ghost use Rattle.eqc_netlist.specs.Pieces.{pieces};

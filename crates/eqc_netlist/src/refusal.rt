@@ -1,12 +1,13 @@
-//! Why a text is refused: the number of the line and the code of its first fault, by the rule that it breaks.
+//! Why a text is refused: the number of the line and the code of its first fault, by the rule that
+//! it breaks.
 
 use crate::text_rule::{RULES, Rule};
 use std::alloc::AllocError;
 use thiserror::Error;
 
-/// Why a text was refused: the number of the line, from 1, and the code of its fault (`docs/blif.md`). Line 0 stands
-/// where the fault has no line: 2 for a text that is too long, 13 for a text without a statement, 72 for memory that
-/// was refused.
+/// Why a text was refused: the number of the line, from 1, and the code of its fault
+/// (`docs/blif.md`). Line 0 stands where the fault has no line: 2 for a text that is too long, 13
+/// for a text without a statement, 72 for memory that was refused.
 #[derive(Debug, Clone, Copy, PartialEq, Eq, Error)]
 #[error("{} (line {line}, code {code})", rule_of(.code))]
 pub struct Refusal {

@@ -8,7 +8,8 @@ ghost use Rattle.eqc_netlist.specs.Rows.{rows_in, AreWhole};
 use crate::key::Key;
 use std::marker::Model;
 
-/// The rows of a cover without blanks. All of them have as many bytes, which stand one behind another.
+/// The rows of a cover without blanks. All of them have as many bytes, which stand one behind
+/// another.
 #[derive(Drop)]
 pub struct Rows<'a> {
     bytes: &'a [u8],
@@ -75,7 +76,8 @@ impl<'a> Rows<'a> {
     }
 }
 
-/// Whether the byte of a column allows a value: `0` allows false, `1` allows true, and any other byte, as `-`, both.
+/// Whether the byte of a column allows a value: `0` allows false, `1` allows true, and any other
+/// byte, as `-`, both.
 pub fn allows(byte: u8, value: bool) -> bool
     ensures { result ≡ allows byte value }
 {
@@ -86,8 +88,8 @@ pub fn allows(byte: u8, value: bool) -> bool
     }
 }
 
-/// Whether a row matches these values of its columns, in their order. Of a row and values of different lengths, what
-/// the other has no partner for plays no part.
+/// Whether a row matches these values of its columns, in their order. Of a row and values of
+/// different lengths, what the other has no partner for plays no part.
 pub fn row_matches(row: &[u8], values: &[bool]) -> bool
     ensures { result ≡ row_matches row.now values.now }
 {
@@ -112,7 +114,8 @@ pub fn is_on(row: &[u8]) -> bool
     }
 }
 
-/// Whether the rows of a cover say where it is true, by their first; else they say where it is false, or there are none.
+/// Whether the rows of a cover say where it is true, by their first; else they say where it is
+/// false, or there are none.
 pub fn is_on_set(rows: &Rows<'_>) -> bool
     ensures { result ≡ is_on_set rows.now }
 {
@@ -134,7 +137,8 @@ fn some_matches(rows: &Rows<'_>, values: &[bool]) -> bool
     false
 }
 
-/// The value of a cover with these rows under the values of its columns, in their order; false where there is no row.
+/// The value of a cover with these rows under the values of its columns, in their order; false
+/// where there is no row.
 pub fn cover_value(rows: &Rows<'_>, values: &[bool]) -> bool
     ensures { result ≡ cover_value rows.now values.now }
 {

@@ -46,7 +46,8 @@ pub const RULES: [Rule; 10] = [
 ];
 
 impl Rule {
-    /// The number that a report shows: 21 to 30 in the order of the variants, 72 for memory that was refused.
+    /// The number that a report shows: 21 to 30 in the order of the variants, 72 for memory that
+    /// was refused.
     pub fn code(self) -> u8
         ensures { result ≡ rule_code self }
     {

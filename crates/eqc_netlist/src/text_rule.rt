@@ -55,7 +55,8 @@ pub const RULES: [Rule; 13] = [
 ];
 
 impl Rule {
-    /// The number that a report shows: 1 to 13 in the order of the variants, 72 for memory that was refused.
+    /// The number that a report shows: 1 to 13 in the order of the variants, 72 for memory that was
+    /// refused.
     pub fn code(self) -> u8
         ensures { result ≡ rule_code self }
     {

@@ -1,4 +1,5 @@
-//! The arena of the shared forest: what no clause says, as which number a node has and how many a collection takes back.
+//! The arena of the shared forest: what no clause says, as which number a node has and how many a
+//! collection takes back.
 ghost use Rattle.std.specs.Prelude.{◌≡◌, ◌≤◌};
 ghost use Rattle.eqc_core.specs.Announcing.{MayAnnounce};
 ghost use Rattle.eqc_cache.specs.Finding.{IsTaken};
@@ -125,7 +126,8 @@ fn give_up(rt: &(impl Abort + Wait), maker: &mut Maker, x: u32)
     same(rt, retired, [x].as_slice(), "retired names");
 }
 
-/// The result of the word that a worker has seen. The worker announces it, and counts it up when another one has given it up.
+/// The result of the word that a worker has seen. The worker announces it, and counts it up when
+/// another one has given it up.
 fn taken(rt: &(impl Abort + Wait), worker: &mut Worker, x: u32, other: &mut Maker) -> Ref
     requires may { MayAnnounce worker.old.known.core 0 x }
     requires slot { 2 ≤ x }

@@ -1,5 +1,6 @@
-//! What ends a test, which alone has the branches and the words of a row that doesn't hold, and of memory that is refused: a test
-//! that has them itself is proved at each of its branches, with all that it holds there.
+//! What ends a test, which alone has the branches and the words of a row that doesn't hold, and of
+//! memory that is refused: a test that has them itself is proved at each of its branches, with all
+//! that it holds there.
 ghost use Rattle.std.specs.Prelude.{◌≡◌, ◌++◌, ◌∷◌, []};
 
 use std::fmt::{Debug, Display};

@@ -1,7 +1,9 @@
 //! The tests of the nodes of the store that threads share.
 //!
-//! - `arenas` and `random_nodes`, of `eqc_arena`; `snapshots`, of what the cache's snapshots leave of nodes
-//! - `makers`, what makes its calls, and `peekers`, where snapshots are out; `ends`, what ends a test
+//! - `arenas` and `random_nodes`, of `eqc_arena`; `snapshots`, of what the cache's snapshots leave
+//!   of nodes
+//! - `makers`, what makes its calls, and `peekers`, where snapshots are out; `ends`, what ends a
+//!   test
 #![tactic(auto)]
 
 #[cfg(test)]

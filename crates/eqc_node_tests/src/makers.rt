@@ -1,4 +1,5 @@
-//! Workers that make nodes, as the tests drive them: each call is made where it is allowed, and ends the test elsewhere.
+//! Workers that make nodes, as the tests drive them: each call is made where it is allowed, and
+//! ends the test elsewhere.
 ghost use Rattle.std.specs.Prelude.{◌≡◌, ◌<◌, ◌≤◌, ℕ, [], ◌∷◌, length, IsTrue, IfOk, OnErr};
 ghost use Rattle.eqc_tree.specs.Tree.{StartsAbove, Node};
 ghost use Rattle.eqc_core.specs.Words.{slots_of};
@@ -98,8 +99,8 @@ fn reads_as(worker: &mut Worker, node: &Ref, var: u16, low: u32, high: u32) -> b
     true
 }
 
-/// Whether the first is the literal of a variable, and the last the node of this variable over false and the second: so
-/// that the last is the and of the others.
+/// Whether the first is the literal of a variable, and the last the node of this variable over
+/// false and the second: so that the last is the and of the others.
 fn is_and(worker: &mut Worker, var: u16, f: &Ref, g: &Ref, r: &Ref) -> bool
     requires ready { IsReady worker.old.known.core }
     requires f { IsHeld worker.old.known.core f.now.number }
@@ -256,7 +257,8 @@ impl Maker {
         opened(rt, &mut self.worker, &self.references[place])
     }
 
-    /// Stores that r, a node of variable 0 over false and g, is the and of f, the literal of variable 0, and g.
+    /// Stores that r, a node of variable 0 over false and g, is the and of f, the literal of
+    /// variable 0, and g.
     pub fn store_and(&mut self, rt: &impl Abort, f: u32, g: u32, r: u32)
         ensures { self.new.worker.forest ≡ self.old.worker.forest }
     {

@@ -1,4 +1,5 @@
-//! Workers that have snapshots out, as the tests drive them: each call is made where it is allowed, and ends the test elsewhere.
+//! Workers that have snapshots out, as the tests drive them: each call is made where it is allowed,
+//! and ends the test elsewhere.
 ghost use Rattle.std.specs.Prelude.{◌<◌, length};
 ghost use Rattle.eqc_node_tests.specs.Peeking.{IsPeeking};
 
@@ -118,7 +119,8 @@ impl Peeker {
         }
     }
 
-    /// Closes the forest, where no snapshot is out: how many slots have a count above 0. Only the constants are held then.
+    /// Closes the forest, where no snapshot is out: how many slots have a count above 0. Only the
+    /// constants are held then.
     pub fn close(self, rt: &impl Abort) -> u32 {
         let Peeker {
             worker,

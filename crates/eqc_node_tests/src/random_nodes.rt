@@ -16,7 +16,8 @@ const VARIABLES: u32 = 6;
 
 const MOST_REFERENCES: usize = 16;
 
-/// Makes a node, where its children allow the variable, there is a reference more, and the arena is not full.
+/// Makes a node, where its children allow the variable, there is a reference more, and the arena is
+/// not full.
 fn tries(rt: &(impl Abort + Wait), maker: &mut Maker, var: u16, low: usize, high: usize) -> bool
     requires low { low < length maker.old.references.items }
     requires high { high < length maker.old.references.items }

@@ -1,4 +1,5 @@
-//! Snapshots of cached results: how many are out at a time, what is told of them, and what of a forest outlives a collection.
+//! Snapshots of cached results: how many are out at a time, what is told of them, and what of a
+//! forest outlives a collection.
 
 use crate::ends::same;
 use crate::makers::{Maker, planted};
@@ -19,7 +20,8 @@ fn node(rt: &(impl Abort + Wait), maker: &mut Maker, var: u16, low: u32, high: u
     }
 }
 
-/// A worker that holds the literals of two variables and their and, which the cache has as such; and their numbers.
+/// A worker that holds the literals of two variables and their and, which the cache has as such;
+/// and their numbers.
 fn stored(rt: &(impl Abort + Wait + AllocGlobal)) -> (Peeker, u32, u32, u32) {
     let mut maker = planted(rt, 2, 4, 8, 1);
     let x = node(rt, &mut maker, 0, FALSE, TRUE);

@@ -25,8 +25,8 @@ fn refusal(rule: Rule) -> Refused
     }
 }
 
-/// Where each of the others stands among the names, of which none stands twice, or none where one of them isn't there. Fails
-/// where memory is refused.
+/// Where each of the others stands among the names, of which none stands twice, or none where one
+/// of them isn't there. Fails where memory is refused.
 fn among(alloc: Global, names: &[Name], others: &[Name]) -> Result<Option<Vec<usize>>, AllocError>
     requires once { has_twice names.now ≡ false }
     ensures { IfOk result (ArePlaces names.now others.now) }
@@ -37,9 +37,10 @@ fn among(alloc: Global, names: &[Name], others: &[Name]) -> Result<Option<Vec<us
 }
 
 impl<'a> Pair<'a> {
-    /// The pair with an assumption in place of its own: only assignments count under which its one output is 1. Its inputs are
-    /// matched by name with those of the first netlist, of which it needn't have all. Refused are, in this order: an input of
-    /// it that is no input of the pair (61), and another number of outputs than one (62). Want of memory is 72.
+    /// The pair with an assumption in place of its own: only assignments count under which its one
+    /// output is 1. Its inputs are matched by name with those of the first netlist, of which it
+    /// needn't have all. Refused are, in this order: an input of it that is no input of the pair
+    /// (61), and another number of outputs than one (62). Want of memory is 72.
     pub fn assuming(self, alloc: Global, assumed: &'a Flat<'a>) -> Result<Pair<'a>, Refused>
         ensures taken { IfOk result (λ _. assumption_refusal self.entry.first.inputs assumed.now ≡ None) }
         ensures pair { IfOk result (λ p. p ≡ record self.entry { assumes = Some assumed.now }) }
@@ -57,8 +58,8 @@ impl<'a> Pair<'a> {
     }
 }
 
-/// The pair of two netlists as `pair` gives it, under an assumption, if there is one: it is refused as `Pair::assuming` refuses
-/// it, behind all that `pair` refuses.
+/// The pair of two netlists as `pair` gives it, under an assumption, if there is one: it is refused
+/// as `Pair::assuming` refuses it, behind all that `pair` refuses.
 pub fn pair_assuming<'a>(
     alloc: Global,
     first: &'a Flat<'a>,

@@ -13,7 +13,8 @@ use crate::unmatched::Unmatched;
 use eqc_netlist::{Flat, Name};
 use std::alloc::{AllocError, Global};
 
-/// Those of these names that others lack, of which none may stand twice. Fails where memory is refused.
+/// Those of these names that others lack, of which none may stand twice. Fails where memory is
+/// refused.
 fn unmatched<'a>(
     alloc: Global,
     others: &[&[u8]],
@@ -27,8 +28,8 @@ fn unmatched<'a>(
     Unmatched::among(alloc, &set, names)
 }
 
-/// The names of each of two lists that the other lacks, or none where they have the same names. Fails where memory is
-/// refused.
+/// The names of each of two lists that the other lacks, or none where they have the same names.
+/// Fails where memory is refused.
 fn differing<'a>(
     alloc: Global,
     names: &'a [Name],
@@ -50,8 +51,8 @@ fn differing<'a>(
     Ok(Some((first, second)))
 }
 
-/// What is at fault in an order text over these inputs, of which none may stand twice, or none where it is taken. Fails
-/// where memory is refused.
+/// What is at fault in an order text over these inputs, of which none may stand twice, or none
+/// where it is taken. Fails where memory is refused.
 fn order_finding<'a>(
     alloc: Global,
     inputs: &'a [Name],
@@ -81,7 +82,8 @@ fn order_finding<'a>(
     Ok(None)
 }
 
-/// Those of these names that others lack, if there are any; none of the others stands twice. Fails where memory is refused.
+/// Those of these names that others lack, if there are any; none of the others stands twice. Fails
+/// where memory is refused.
 fn unknown_among<'a>(
     alloc: Global,
     others: &[Name],
@@ -100,9 +102,10 @@ fn unknown_among<'a>(
     Ok(None)
 }
 
-/// What is at fault in two netlists that make no pair, in the names of chosen outputs, or in the order text that is given for
-/// them, for a reader of a refusal: names that one netlist has and the other lacks, names of no outputs, and what in the order
-/// text its code is about. None where `pair_choosing` takes them. Fails where memory is refused.
+/// What is at fault in two netlists that make no pair, in the names of chosen outputs, or in the
+/// order text that is given for them, for a reader of a refusal: names that one netlist has and the
+/// other lacks, names of no outputs, and what in the order text its code is about. None where
+/// `pair_choosing` takes them. Fails where memory is refused.
 pub fn explain_pair<'a>(
     alloc: Global,
     first: &'a Flat<'a>,
@@ -129,8 +132,9 @@ pub fn explain_pair<'a>(
     }
 }
 
-/// What is at fault in an assumption on the inputs of a netlist, for a reader of a refusal: inputs of it that the netlist lacks,
-/// or how many outputs it has. None where `Pair::assuming` takes it. Fails where memory is refused.
+/// What is at fault in an assumption on the inputs of a netlist, for a reader of a refusal: inputs
+/// of it that the netlist lacks, or how many outputs it has. None where `Pair::assuming` takes it.
+/// Fails where memory is refused.
 pub fn explain_assumption<'a>(
     alloc: Global,
     first: &Flat<'_>,

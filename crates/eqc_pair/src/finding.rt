@@ -1,18 +1,20 @@
-//! What a refusal of a pair is about: inputs or outputs that the other netlist lacks, chosen outputs that are none, what is wrong
-//! in the order text, or inputs and outputs of the assumption.
+//! What a refusal of a pair is about: inputs or outputs that the other netlist lacks, chosen
+//! outputs that are none, what is wrong in the order text, or inputs and outputs of the assumption.
 
 use crate::unmatched::Unmatched;
 
-/// What is at fault in two netlists that make no pair, or in what is given for them: names of outputs, an order text, an
-/// assumption.
+/// What is at fault in two netlists that make no pair, or in what is given for them: names of
+/// outputs, an order text, an assumption.
 #[derive(Drop)]
 pub enum Finding<'a> {
-    /// 41: the inputs of the first netlist that the second lacks, and those of the second that the first lacks.
+    /// 41: the inputs of the first netlist that the second lacks, and those of the second that the
+    /// first lacks.
     OtherInputs {
         first: Unmatched<'a>,
         second: Unmatched<'a>,
     },
-    /// 42: the outputs of the first netlist that the second lacks, and those of the second that the first lacks.
+    /// 42: the outputs of the first netlist that the second lacks, and those of the second that the
+    /// first lacks.
     OtherOutputs {
         first: Unmatched<'a>,
         second: Unmatched<'a>,

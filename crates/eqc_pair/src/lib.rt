@@ -1,12 +1,14 @@
-//! Pairs: two flat netlists whose inputs and outputs are matched by name, with an order of the inputs as variables, the outputs
-//! that are chosen and an assumption, where they are given; or what they are refused for.
+//! Pairs: two flat netlists whose inputs and outputs are matched by name, with an order of the
+//! inputs as variables, the outputs that are chosen and an assumption, where they are given; or
+//! what they are refused for.
 //!
-//! What makes a pair is said in `specs/Matched.antt` and `specs/PairOf.antt`, and what a refusal is about in
-//! `specs/Finding.antt`. Read the modules in this order:
+//! What makes a pair is said in `specs/Matched.antt` and `specs/PairOf.antt`, and what a refusal is
+//! about in `specs/Finding.antt`. Read the modules in this order:
 //!
-//! - `pairing`, the call; `matched_pair`, the pair that it gives; `assuming`, a pair under an assumption; `refused` and `rule`, why
-//!   there is none
-//! - `name_index`, where names stand among others; `order`, order texts; `places`, the step of each signal
+//! - `pairing`, the call; `matched_pair`, the pair that it gives; `assuming`, a pair under an
+//!   assumption; `refused` and `rule`, why there is none
+//! - `name_index`, where names stand among others; `order`, order texts; `places`, the step of each
+//!   signal
 //! - `explanation`, what is at fault, as a `finding`, by names that others lack, `unmatched`
 #![tactic(auto)]
 

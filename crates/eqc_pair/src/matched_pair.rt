@@ -1,5 +1,5 @@
-//! Pairs, with all that a comparison reads of one: variables of inputs, matched outputs, which of them are left out, and the step
-//! of each signal.
+//! Pairs, with all that a comparison reads of one: variables of inputs, matched outputs, which of
+//! them are left out, and the step of each signal.
 ghost use Rattle.std.specs.Prelude.{◌≡◌, [], None, Some, map, length, IfOk, EachIndex, slice_index, slice_index_or, ◌<◌};
 ghost use Rattle.std.specs.Option.{option_copied};
 ghost use Rattle.eqc_pair.specs.Matched.{position_of, is_chosen};
@@ -12,8 +12,9 @@ use eqc_netlist::Flat;
 use std::alloc::{AllocError, Global};
 use std::marker::Model;
 
-/// Two flat netlists with the same inputs and outputs, matched by name, and an order of the inputs as variables; and, where they
-/// are given, an assumption on the inputs, and the outputs that are chosen.
+/// Two flat netlists with the same inputs and outputs, matched by name, and an order of the inputs
+/// as variables; and, where they are given, an assumption on the inputs, and the outputs that are
+/// chosen.
 #[derive(Drop)]
 pub struct Pair<'a> {
     first: &'a Flat<'a>,
@@ -55,8 +56,8 @@ pub(crate) struct Matches {
     pub left_out: Vec<bool>,
 }
 
-/// What holds of every flat netlist, for a proof of its caller: it does nothing. A netlist's laws are known only
-/// where a call states them.
+/// What holds of every flat netlist, for a proof of its caller: it does nothing. A netlist's laws
+/// are known only where a call states them.
 pub fn recall_laws(flat: &Flat<'_>)
     ensures lawful { IsFlat flat.now }
     ensures follows { FollowsDrivers flat.now }
@@ -77,8 +78,8 @@ fn pick<T: Copy>(alloc: Global, values: &[T], places: &[usize]) -> Result<Vec<T>
 }
 
 impl<'a> Pair<'a> {
-    /// The pair with what its comparison reads, of netlists that are matched, where these outputs are chosen. It has no
-    /// assumption. Fails where memory is refused.
+    /// The pair with what its comparison reads, of netlists that are matched, where these outputs
+    /// are chosen. It has no assumption. Fails where memory is refused.
     pub(crate) fn laid_out(
         alloc: Global,
         first: &'a Flat<'a>,
@@ -124,8 +125,8 @@ impl<'a> Pair<'a> {
         })
     }
 
-    /// The pair with this assumption in place of its own. `inputs` has the position of each input of the assumption among those
-    /// of the first netlist. Fails where memory is refused.
+    /// The pair with this assumption in place of its own. `inputs` has the position of each input
+    /// of the assumption among those of the first netlist. Fails where memory is refused.
     pub(crate) fn with_assumption(
         self,
         alloc: Global,
@@ -174,7 +175,8 @@ impl<'a> Pair<'a> {
         self.assumes
     }
 
-    /// Whether an output is chosen, by its position in the first netlist. It is below the number of outputs.
+    /// Whether an output is chosen, by its position in the first netlist. It is below the number of
+    /// outputs.
     pub fn is_chosen(&self, output: usize) -> bool
         requires { output < length self.now.first.outputs }
         ensures { result ≡ is_chosen self.now.chosen (slice_index_or self.now.first.outputs output []) }

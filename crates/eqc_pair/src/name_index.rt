@@ -1,4 +1,5 @@
-//! Where names stand among others, whether one of them stands twice, and which outputs are not among those that are named.
+//! Where names stand among others, whether one of them stands twice, and which outputs are not
+//! among those that are named.
 ghost use Rattle.std.specs.Prelude.{◌≡◌, ℕ, ◌<◌, map, true, false, not, nat_eq, IfOk, EachIndex, MatchOption, slice_index, slice_index_or};
 ghost use Rattle.std.specs.List.{list_any};
 ghost use Rattle.eqc_netlist.specs.Names.{has_twice};
@@ -8,7 +9,8 @@ ghost use Rattle.eqc_pair.specs.Matched.{ArePlaces, MarkLeftOut};
 use eqc_netlist::{Key, Name, NameSet};
 use std::alloc::{AllocError, Global};
 
-/// The set of these names, in their order, of which none may stand twice. Fails where memory is refused.
+/// The set of these names, in their order, of which none may stand twice. Fails where memory is
+/// refused.
 pub(crate) fn set_of<'a>(alloc: Global, names: &[&'a [u8]]) -> Result<NameSet<'a>, AllocError>
     requires once { has_twice (map (λ name. name.now) names.now) ≡ false }
     ensures { IfOk result (λ set. set ≡ map (λ name. name.now) names.now) }
@@ -20,8 +22,8 @@ pub(crate) fn set_of<'a>(alloc: Global, names: &[&'a [u8]]) -> Result<NameSet<'a
     Ok(set)
 }
 
-/// The first of these names that stands among those before it, or none where no name stands twice. Fails where memory
-/// is refused.
+/// The first of these names that stands among those before it, or none where no name stands twice.
+/// Fails where memory is refused.
 pub(crate) fn first_twice<'a>(
     alloc: Global,
     names: &[&'a [u8]],
@@ -39,7 +41,8 @@ pub(crate) fn first_twice<'a>(
     Ok(None)
 }
 
-/// Where each of these names stands in a set, or none where one of them isn't there. Fails where memory is refused.
+/// Where each of these names stands in a set, or none where one of them isn't there. Fails where
+/// memory is refused.
 fn positions(
     alloc: Global,
     set: &NameSet<'_>,
@@ -57,8 +60,8 @@ fn positions(
     Ok(Some(all))
 }
 
-/// Where each of the other names stands among these, of which none may stand twice, or none where one of the
-/// others isn't there. Fails where memory is refused.
+/// Where each of the other names stands among these, of which none may stand twice, or none where
+/// one of the others isn't there. Fails where memory is refused.
 pub(crate) fn places_among(
     alloc: Global,
     names: &[&[u8]],
@@ -90,8 +93,9 @@ fn marks_but(alloc: Global, count: usize, places: &[usize]) -> Result<Vec<bool>,
     Ok(marks)
 }
 
-/// Marks of the outputs that are not among those of these names, none without a name; or nothing where a name is that of no
-/// output. None of the outputs stands twice. Fails where memory is refused.
+/// Marks of the outputs that are not among those of these names, none without a name; or nothing
+/// where a name is that of no output. None of the outputs stands twice. Fails where memory is
+/// refused.
 pub(crate) fn left_out(
     alloc: Global,
     outputs: &[Name],

@@ -1,4 +1,5 @@
-//! Orders of a netlist's inputs as variables: the one that an order text gives, else that of the declarations.
+//! Orders of a netlist's inputs as variables: the one that an order text gives, else that of the
+//! declarations.
 ghost use Rattle.std.specs.Prelude.{◌≡◌, ◌⊎◌, ◌==◌, ◌++◌, ◌+◌, ◌<◌, ◌≤◌, [], ◌∷◌, Some, None, false, length, drop, map, filter, slice_index, EachIndex, IfOk, IfErr, OnOk, MatchOption};
 ghost use Rattle.std.specs.List.{position_or_len, range_with_len};
 ghost use Rattle.std.specs.Option.{option_map, option_copied};
@@ -78,8 +79,8 @@ fn push_words<'t>(words: &mut Vec<&'t [u8]>, line: &'t [u8]) -> Result<(), Alloc
     }
 }
 
-/// The words of an order text: blanks and line ends separate them, and `#` cuts to the end of its line. Fails
-/// where memory is refused.
+/// The words of an order text: blanks and line ends separate them, and `#` cuts to the end of its
+/// line. Fails where memory is refused.
 pub(crate) fn order_words<'t>(alloc: Global, text: &'t [u8]) -> Result<Vec<&'t [u8]>, AllocError>
     ensures { IfOk result (λ words. map (λ word. word.now) words.items ≡ order_words text.now) }
 {
@@ -147,9 +148,9 @@ fn refusal(code: u8) -> Refused
     }
 }
 
-/// Where each word of an order text stands among these inputs, and where each input stands among the words; or
-/// the text's refusal: 2 too long, 51 a word that is no input, 52 a word twice, 53 an input that isn't there,
-/// the first of them in this order; or no memory.
+/// Where each word of an order text stands among these inputs, and where each input stands among
+/// the words; or the text's refusal: 2 too long, 51 a word that is no input, 52 a word twice, 53 an
+/// input that isn't there, the first of them in this order; or no memory.
 fn read_places(
     alloc: Global,
     inputs: &[&[u8]],
@@ -195,8 +196,8 @@ fn read_order(alloc: Global, inputs: &[Name], text: &[u8]) -> Result<Order, Refu
     })
 }
 
-/// The order that an order text gives to these inputs, else the one in which they are declared; or the text's
-/// refusal, or no memory.
+/// The order that an order text gives to these inputs, else the one in which they are declared; or
+/// the text's refusal, or no memory.
 pub(crate) fn order_of(
     alloc: Global,
     inputs: &[Name],

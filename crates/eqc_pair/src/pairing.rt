@@ -1,4 +1,5 @@
-//! The matching of two flat netlists by the names of their inputs and outputs: a pair, or the first refusal.
+//! The matching of two flat netlists by the names of their inputs and outputs: a pair, or the first
+//! refusal.
 ghost use Rattle.std.specs.Prelude.{◌≡◌, ◌⊎◌, [], Some, None, true, false, map, IfOk, IfErr, MatchOption};
 ghost use Rattle.std.specs.Option.{option_copied};
 ghost use Rattle.eqc_netlist.specs.Names.{has_twice};
@@ -34,8 +35,8 @@ fn refusal(code: u8) -> Refused
     }
 }
 
-/// Where each of the others stands among the names, or none where the two haven't the same names. Fails where
-/// memory is refused.
+/// Where each of the others stands among the names, or none where the two haven't the same names.
+/// Fails where memory is refused.
 fn matched(alloc: Global, names: &[Name], others: &[Name]) -> Result<Option<Vec<usize>>, AllocError>
     requires once { has_twice names.now ≡ false }
     requires others_once { has_twice others.now ≡ false }
@@ -51,8 +52,9 @@ fn matched(alloc: Global, names: &[Name], others: &[Name]) -> Result<Option<Vec<
     places_among(alloc, &names, &others)
 }
 
-/// Where the names of two netlists stand, or their refusal, as without an order text: two sets of input names that
-/// differ (41) or of output names (42), or a name of a chosen output that is that of none (43); or no memory.
+/// Where the names of two netlists stand, or their refusal, as without an order text: two sets of
+/// input names that differ (41) or of output names (42), or a name of a chosen output that is that
+/// of none (43); or no memory.
 fn matches_of(
     alloc: Global,
     first: &Flat<'_>,
@@ -78,10 +80,11 @@ fn matches_of(
     })
 }
 
-/// The pair of two netlists, whose inputs and outputs are matched by name, with the order of an order text,
-/// else with that in which the first netlist declares its inputs. Refused are, in this order: two sets of
-/// input names that differ (41) or of output names (42), and of the order text what is too long (2), a word
-/// that is no input (51), a word twice (52) and an input that isn't there (53). Want of memory is 72.
+/// The pair of two netlists, whose inputs and outputs are matched by name, with the order of an
+/// order text, else with that in which the first netlist declares its inputs. Refused are, in this
+/// order: two sets of input names that differ (41) or of output names (42), and of the order text
+/// what is too long (2), a word that is no input (51), a word twice (52) and an input that isn't
+/// there (53). Want of memory is 72.
 pub fn pair<'a>(
     alloc: Global,
     first: &'a Flat<'a>,
@@ -97,8 +100,8 @@ pub fn pair<'a>(
     pair_choosing(alloc, first, second, &[], order)
 }
 
-/// The same with the outputs of these names alone, which may stand twice; without a name with all. Behind 42 a name is
-/// refused that is that of no output (43).
+/// The same with the outputs of these names alone, which may stand twice; without a name with all.
+/// Behind 42 a name is refused that is that of no output (43).
 pub fn pair_choosing<'a>(
     alloc: Global,
     first: &'a Flat<'a>,

@@ -1,4 +1,5 @@
-//! Refusals in a comparison: the side that is refused, the line in its text, and the code of the rule.
+//! Refusals in a comparison: the side that is refused, the line in its text, and the code of the
+//! rule.
 ghost use Rattle.std.specs.Prelude.{◌≡◌};
 ghost use Rattle.eqc_pair.specs.Side.{side_word};
 

@@ -4,7 +4,8 @@ ghost use Rattle.eqc_pair.specs.Rule.{rule_code};
 
 use thiserror::Error;
 
-/// What two netlists are refused for as a pair, or what an order text or an assumption is (`docs/report.md`).
+/// What two netlists are refused for as a pair, or what an order text or an assumption is
+/// (`docs/report.md`).
 #[derive(Clone, Copy, Debug, PartialEq, Eq, Error)]
 pub enum Rule {
     #[error("the two netlists have different inputs")]
@@ -38,8 +39,8 @@ pub const PAIR_RULES: [Rule; 8] = [
 ];
 
 impl Rule {
-    /// The number that a report shows: 41 to 43 for the pair, 51 to 53 for the order text, 61 and 62 for the assumption, in
-    /// the order of the variants.
+    /// The number that a report shows: 41 to 43 for the pair, 51 to 53 for the order text, 61 and
+    /// 62 for the assumption, in the order of the variants.
     pub fn code(self) -> u8
         ensures { result ≡ rule_code self }
     {
@@ -56,8 +57,8 @@ impl Rule {
     }
 }
 
-/// What a refusal is for: a text, a hierarchy, what is asked of both together, or what the caller refuses by a number of its
-/// own, as options.
+/// What a refusal is for: a text, a hierarchy, what is asked of both together, or what the caller
+/// refuses by a number of its own, as options.
 #[derive(Clone, Copy, Debug, PartialEq, Eq, Error)]
 pub(crate) enum Reason {
     #[error(transparent)]

@@ -1,4 +1,5 @@
-//! Names that others lack, as they are told of a refusal: the first of them, and how many there are.
+//! Names that others lack, as they are told of a refusal: the first of them, and how many there
+//! are.
 ghost use Rattle.std.specs.Prelude.{◌≡◌, ◌==◌, ◌<◌, ℕ, List, [], ◌∷◌, ◌++◌, map, IfOk, OnOk};
 ghost use Rattle.eqc_pair.specs.Matched.{has_all};
 ghost use Rattle.eqc_pair.specs.Finding.{AreCut, AreUnmatched};

@@ -1,5 +1,5 @@
-//! What the calls below a run answer on a pair, in one word: the comparison of one output, least assignments, and reports of pairs, each on
-//! a store of its own.
+//! What the calls below a run answer on a pair, in one word: the comparison of one output, least
+//! assignments, and reports of pairs, each on a store of its own.
 #![tactic(auto, using(eqc_tree::proofs::HoldingLemmas::counts_itself))]
 
 ghost use Rattle.std.specs.Prelude.{◌<◌, ◌≤◌, IsTrue, length};

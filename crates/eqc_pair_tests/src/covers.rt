@@ -1,6 +1,6 @@
-//! Covers of three to six columns, each in two ways: the first model has it as one cover, the second as covers of two
-//! columns or by its rows for 0. The number of nodes is that of the store in which both become one diagram. And the truth
-//! tables of covers.
+//! Covers of three to six columns, each in two ways: the first model has it as one cover, the
+//! second as covers of two columns or by its rows for 0. The number of nodes is that of the store
+//! in which both become one diagram. And the truth tables of covers.
 #![tactic(auto)]
 
 use crate::ends::holds;
@@ -10,7 +10,8 @@ use eqc_pair_testing::{Ask, is_ordered_answer};
 use eqc_testing::{Row, lines};
 use std::alloc::{AllocError, Global};
 
-/// Pairs of covers, how many nodes both take together, and an order of the inputs where it isn't that of the text.
+/// Pairs of covers, how many nodes both take together, and an order of the inputs where it isn't
+/// that of the text.
 #[rattlefmt::skip]
 static COVERS: &[Row<(&'static str, u32)>] = &[
     ("an exclusive or of three", ".model f;.inputs a b c;.outputs z;.names a b c z;100 1;010 1;001 1;111 1;.end;.model g;.inputs a b c;.outputs z;.names a b t;10 1;01 1;.names t c z;10 1;01 1;.end;", ("", 16)),
@@ -35,8 +36,8 @@ fn covers_of_few_columns_take_few_nodes(rt: HostRuntime) {
     }
 }
 
-/// Of a cover: its table, what is left of it where the first column is true and where it is false, and whether it is
-/// constant; and the column at which it is best split.
+/// Of a cover: its table, what is left of it where the first column is true and where it is false,
+/// and whether it is constant; and the column at which it is best split.
 type Tables = (u64, u64, u64, bool, Option<usize>);
 
 /// Those of the one cover of a text, where that has at most so many columns as a table.

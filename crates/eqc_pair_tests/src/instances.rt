@@ -1,5 +1,5 @@
-//! Instances of one cover over different columns, of which the later ones are made by what was kept of the cover or by its table,
-//! against covers of two columns.
+//! Instances of one cover over different columns, of which the later ones are made by what was kept
+//! of the cover or by its table, against covers of two columns.
 #![tactic(auto)]
 
 use crate::ends::holds;
@@ -46,8 +46,8 @@ fn with_rows(alloc: Global, head: &str, rows: &str, times: u32) -> Result<String
     Ok(text)
 }
 
-/// A pair of three instances each: of the cover, whose rows stand so many times, in the one, and by covers of two columns in the other,
-/// with this third one.
+/// A pair of three instances each: of the cover, whose rows stand so many times, in the one, and by
+/// covers of two columns in the other, with this third one.
 fn pair_of_three(alloc: Global, third: &str, times: u32) -> Result<String, AllocError> {
     let [_, _, same] = ACTUALS;
     let first = three_of(alloc, "f", "odd", same)?;
@@ -98,7 +98,8 @@ fn instances_of_a_cover_of_very_many_rows_are_made_of_its_splits(rt: HostRuntime
     );
 }
 
-/// The rows of a choice: of the complement of the third column where the first is true, else of the second.
+/// The rows of a choice: of the complement of the third column where the first is true, else of the
+/// second.
 const CHOICE: &str = "1-0 1;01- 1;";
 
 /// The same by covers of two columns.
@@ -108,7 +109,8 @@ const BY_TWO: &str =
 /// A model of three columns, up to its rows.
 const MANY: &str = ".model many;.inputs a b c;.outputs o;.names a b c o;";
 
-/// A model of two instances of a model, of which the second has the output of the first, and this actual in the end.
+/// A model of two instances of a model, of which the second has the output of the first, and this
+/// actual in the end.
 fn two_of(alloc: Global, name: &str, model: &str, last: &str) -> Result<String, AllocError> {
     format!(in alloc;
         ".model {name};.inputs a b c d;.outputs z;.subckt {model} a=a b=b c=c o=x;.subckt {model} a=d b=x c={last} o=z;.end;"

@@ -1,7 +1,8 @@
 //! The tests of pairs by the calls below a run, on one thread.
 //!
 //! - `pairs`, one output, least assignments and reports
-//! - `covers`, how many nodes these take, and their truth tables; `instances`, instances of one cover
+//! - `covers`, how many nodes these take, and their truth tables; `instances`, instances of one
+//!   cover
 #![tactic(auto)]
 
 #[cfg(test)]

@@ -1,5 +1,5 @@
-//! The calls below a run: pairs, the comparison of one output, least assignments and reports of pairs. The expected words
-//! are worked out by hand: values of inputs in order, or a report.
+//! The calls below a run: pairs, the comparison of one output, least assignments and reports of
+//! pairs. The expected words are worked out by hand: values of inputs in order, or a report.
 
 use crate::ends::{holds, same};
 use eqc_pair_testing::{Ask, is_ordered_answer};
@@ -32,7 +32,8 @@ fn check_asked(rt: &(impl Abort + AllocGlobal), rows: &[Row<Asked>]) {
     }
 }
 
-/// Which output is compared, on a store of how many nodes, and the least assignment under which it differs.
+/// Which output is compared, on a store of how many nodes, and the least assignment under which it
+/// differs.
 #[rattlefmt::skip]
 static OUTPUTS: &[Row<Asked>] = &[
     ("conjunctions", EQUAL, ("", Ask::Output(0, 16), "none")),
@@ -52,7 +53,8 @@ fn outputs_are_compared_one_by_one(rt: HostRuntime) {
     check_asked(&rt, OUTPUTS);
 }
 
-/// Variables of a pair with the inputs `x` and `y`, and the least assignment that makes the variable true.
+/// Variables of a pair with the inputs `x` and `y`, and the least assignment that makes the
+/// variable true.
 #[rattlefmt::skip]
 static LITERALS: &[Row<Asked>] = &[
     ("x, the first variable", EQUAL, ("", Ask::Literal(0), "10")),
@@ -66,7 +68,8 @@ fn least_assignments_go_by_inputs(rt: HostRuntime) {
     check_asked(&rt, LITERALS);
 }
 
-/// The variables have the inputs in the opposite order, and the least assignment is that of the inputs all the same.
+/// The variables have the inputs in the opposite order, and the least assignment is that of the
+/// inputs all the same.
 static EITHER: &[Row<Asked>] = &[("one of the inputs", EQUAL, ("y x", Ask::Either, "01"))];
 
 #[test]
@@ -102,7 +105,8 @@ fn backwards(alloc: Global) -> Result<String, AllocError> {
     Ok(order)
 }
 
-/// Whether the least assignment of `every_second` is found under an order text, in a store of so many nodes.
+/// Whether the least assignment of `every_second` is found under an order text, in a store of so
+/// many nodes.
 fn is_least_of_many<R>(
     rt: &R,
     alloc: Global,
@@ -122,8 +126,8 @@ fn are_least_of_many<R>(rt: &R, alloc: Global, text: &str) -> Result<(bool, bool
     Ok((onwards, back))
 }
 
-/// Where many inputs have to be 1 between others that are free, the least assignment is found in a store that has room for the
-/// diagram of the difference and for those on the way to it.
+/// Where many inputs have to be 1 between others that are free, the least assignment is found in a
+/// store that has room for the diagram of the difference and for those on the way to it.
 #[test]
 fn least_assignments_of_many_ones_take_no_nodes(rt: HostRuntime) -> Result<(), AllocError> {
     let text = every_second(rt.alloc())?;

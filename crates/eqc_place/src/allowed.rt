@@ -12,8 +12,9 @@ use eqc_graph::negated_if;
 use eqc_sweep::Sweep;
 use std::alloc::{AllocError, Global};
 
-/// A literal that has the value of another one wherever an assumption holds: its conjunction with that, or where `sign` says so the
-/// complement of that of its complement. Fails where memory is refused.
+/// A literal that has the value of another one wherever an assumption holds: its conjunction with
+/// that, or where `sign` says so the complement of that of its complement. Fails where memory is
+/// refused.
 fn under(sweep: &mut Sweep, assumed: u32, literal: u32, sign: bool) -> Result<u32, AllocError>
     requires assumed { IsWithin sweep.old assumed }
     requires literal { IsWithin sweep.old literal }
@@ -24,12 +25,14 @@ fn under(sweep: &mut Sweep, assumed: u32, literal: u32, sign: bool) -> Result<u3
     Ok(negated_if(both, sign))
 }
 
-/// For each step of the two netlists that has a literal one that has its value wherever the assumption holds. There is none where there is
-/// no assumption, or where it hasn't entered.
+/// For each step of the two netlists that has a literal one that has its value wherever the
+/// assumption holds. There is none where there is no assumption, or where it hasn't entered.
 ///
-/// Two of them are the same literal, or opposite ones, where they are found to be so wherever the assumption holds. What is joined with
-/// it is 0 where the first netlist's inputs have these values. If they are allowed, steps that are opposite where the assumption holds
-/// have one conjunction then, as equal ones have, and no second one is needed. Fails where memory is refused.
+/// Two of them are the same literal, or opposite ones, where they are found to be so wherever the
+/// assumption holds. What is joined with it is 0 where the first netlist's inputs have these
+/// values. If they are allowed, steps that are opposite where the assumption holds have one
+/// conjunction then, as equal ones have, and no second one is needed. Fails where memory is
+/// refused.
 pub(crate) fn literals_where_allowed(
     alloc: Global,
     steps: &Steps<'_>,

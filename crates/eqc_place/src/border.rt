@@ -1,4 +1,5 @@
-//! Up to where two netlists are known to be equal: the nearest signals below some outputs that have partners.
+//! Up to where two netlists are known to be equal: the nearest signals below some outputs that have
+//! partners.
 ghost use Rattle.std.specs.Prelude.{◌≤◌, All, length, IfOk, IfSome, OnOk};
 ghost use Rattle.eqc_place.specs.Places.{IsMeeting};
 
@@ -50,8 +51,8 @@ impl Reached {
     }
 }
 
-/// For each node the first step of each netlist that was reached and has a literal of it, and these nodes in their order, without those of
-/// inputs, which are counted, and of constants.
+/// For each node the first step of each netlist that was reached and has a literal of it, and these
+/// nodes in their order, without those of inputs, which are counted, and of constants.
 #[derive(Drop)]
 struct Tops {
     first: Vec<u32>,
@@ -125,8 +126,8 @@ impl<'a> Locator<'a> {
         }
     }
 
-    /// Reaches the two steps of each of these outputs that wasn't found equal, and tells how many of them there are. Fails where memory is
-    /// refused.
+    /// Reaches the two steps of each of these outputs that wasn't found equal, and tells how many
+    /// of them there are. Fails where memory is refused.
     fn reach_outputs(&self, outputs: &[bool], reached: &mut Reached) -> Result<usize, AllocError>
         requires { length outputs.now ≤ length self.now.pair.first.outputs }
     {
@@ -145,8 +146,8 @@ impl<'a> Locator<'a> {
         Ok(count)
     }
 
-    /// All that is reached from these outputs, where no way goes on from a step with a partner; those are noted. Fails where memory is
-    /// refused.
+    /// All that is reached from these outputs, where no way goes on from a step with a partner;
+    /// those are noted. Fails where memory is refused.
     fn reach_all(&self, reached: &mut Reached, tops: &mut Tops) -> Result<(), AllocError> {
         let (second, _) = self.second_steps();
         for k in 0..self.steps.len() {
@@ -231,10 +232,12 @@ impl<'a> Locator<'a> {
         Ok(marks)
     }
 
-    /// Up to where the two netlists are known to be equal below these outputs, which are marked by their positions in the first netlist:
-    /// signals that have partners, and that are reached from an output back by signals without one. An output that was itself found equal
-    /// counts for none. Which signals are told is found by the sweep alone; that they are equal is proved. Constants are left out. It takes
-    /// time in proportion to the steps. Fails where memory is refused.
+    /// Up to where the two netlists are known to be equal below these outputs, which are marked by
+    /// their positions in the first netlist: signals that have partners, and that are reached from
+    /// an output back by signals without one. An output that was itself found equal counts for
+    /// none. Which signals are told is found by the sweep alone; that they are equal is proved.
+    /// Constants are left out. It takes time in proportion to the steps. Fails where memory is
+    /// refused.
     pub fn border(&self, alloc: Global, outputs: &[bool]) -> Result<Border, AllocError>
         requires { length outputs.now ≤ length self.now.pair.first.outputs }
         ensures { IfOk result (λ border. All (IsMeeting self.now.pair) border.meetings.items) }

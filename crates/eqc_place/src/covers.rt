@@ -1,4 +1,5 @@
-//! The covers of steps as they are simulated: rows of literals, all in one list. Nothing is believed of them.
+//! The covers of steps as they are simulated: rows of literals, all in one list. Nothing is
+//! believed of them.
 ghost use Rattle.std.specs.Prelude.{◌<◌};
 ghost use Rattle.eqc_build.specs.Steps.{steps_in};
 
@@ -8,10 +9,12 @@ use eqc_build::{StepDriver, Steps, Uses};
 use eqc_netlist::{Rows, is_on_set};
 use std::alloc::{AllocError, Global};
 
-/// Where more literals than so many would be listed, for each instance of a model anew, further covers are taken to have no rows.
+/// Where more literals than so many would be listed, for each instance of a model anew, further
+/// covers are taken to have no rows.
 const LITERALS: usize = 16_777_216;
 
-/// The cover of a step: which rows are its own, and whether they tell where it is 0; or else its variable.
+/// The cover of a step: which rows are its own, and whether they tell where it is 0; or else its
+/// variable.
 #[derive(Clone, Copy)]
 struct Cover {
     begin: usize,
@@ -20,7 +23,8 @@ struct Cover {
     variable: u32,
 }
 
-/// What marked steps compute of others. A literal is twice a step's number, and one more where the step has to be 0.
+/// What marked steps compute of others. A literal is twice a step's number, and one more where the
+/// step has to be 0.
 #[derive(Drop)]
 pub(crate) struct Covers {
     covers: Vec<Cover>,
@@ -157,7 +161,8 @@ impl Covers {
         matched
     }
 
-    /// The word that a step has by those of others, of which one may be turned, and by those of the variables.
+    /// The word that a step has by those of others, of which one may be turned, and by those of the
+    /// variables.
     pub(crate) fn word(&self, inputs: &[u64], words: &[u64], step: u32, turned: u32) -> u64 {
         let Some(cover) = self.covers.get(step as usize).copied() else {
             return 0;

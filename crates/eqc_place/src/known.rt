@@ -1,12 +1,13 @@
-//! Which steps are known in the other netlist: their node of the graph is one of the other netlist too, or stands below one. Nothing is
-//! believed of it.
+//! Which steps are known in the other netlist: their node of the graph is one of the other netlist
+//! too, or stands below one. Nothing is believed of it.
 
 use crate::partner::literal_at;
 use eqc_graph::{Graph, node_of};
 use eqc_sweep::below;
 use std::alloc::{AllocError, Global};
 
-/// For each node of a graph, whether it stands below a literal of the first netlist, and of the second.
+/// For each node of a graph, whether it stands below a literal of the first netlist, and of the
+/// second.
 #[derive(Drop)]
 pub(crate) struct Known {
     in_first: Vec<bool>,
@@ -30,7 +31,8 @@ fn literals_from(
 }
 
 impl Known {
-    /// Of steps with these literals in a graph, where those of the second netlist begin and end so. Fails where memory is refused.
+    /// Of steps with these literals in a graph, where those of the second netlist begin and end so.
+    /// Fails where memory is refused.
     pub(crate) fn of(
         alloc: Global,
         graph: &Graph,
@@ -46,7 +48,8 @@ impl Known {
         })
     }
 
-    /// Whether a step of the second netlist, or else of the first, is known in the other one. What never entered is taken to be.
+    /// Whether a step of the second netlist, or else of the first, is known in the other one. What
+    /// never entered is taken to be.
     pub(crate) fn has(&self, literals: &[Option<u32>], step: u32, is_second: bool) -> bool {
         let Some(literal) = literal_at(literals, step) else {
             return true;

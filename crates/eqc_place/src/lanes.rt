@@ -1,4 +1,5 @@
-//! Outputs that differ under assignments of their own, simulated together: which of them wouldn't if one step had the opposite value.
+//! Outputs that differ under assignments of their own, simulated together: which of them wouldn't
+//! if one step had the opposite value.
 ghost use Rattle.std.specs.Prelude.{◌≡◌, ◌<◌, length, IfOk};
 
 use crate::locating::Locator;
@@ -29,8 +30,8 @@ impl Lanes {
         }
     }
 
-    /// Adds an output by its position in the first netlist, whose inputs have these values, one for each. Tells whether it was added: after
-    /// 64 of them none is. Fails where memory is refused.
+    /// Adds an output by its position in the first netlist, whose inputs have these values, one for
+    /// each. Tells whether it was added: after 64 of them none is. Fails where memory is refused.
     pub fn add(
         &mut self,
         locator: &Locator<'_>,
@@ -56,8 +57,8 @@ impl Lanes {
         Ok(true)
     }
 
-    /// For each of these places which of the outputs wouldn't differ if it had the opposite value, as the bits of their numbers. This is
-    /// found by simulation. Fails where memory is refused.
+    /// For each of these places which of the outputs wouldn't differ if it had the opposite value,
+    /// as the bits of their numbers. This is found by simulation. Fails where memory is refused.
     pub fn mended(
         &self,
         alloc: Global,

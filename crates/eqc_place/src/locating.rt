@@ -22,7 +22,8 @@ use eqc_sweep::{Effort, Sweep};
 use std::alloc::{AllocError, Global};
 use std::marker::Model;
 
-/// The most conflicts of a question, and the work of all for each conflict that is allowed, for each node, and for the graph as a whole.
+/// The most conflicts of a question, and the work of all for each conflict that is allowed, for
+/// each node, and for the graph as a whole.
 const QUESTION: u64 = 1_000;
 
 const WORK: u64 = 2_000;
@@ -31,14 +32,16 @@ const EACH_NODE: u64 = 3_000;
 
 const WHOLE: u64 = 4_000_000;
 
-/// Where more characters of covers would enter than so many, for each instance of a model anew, nothing does, and no place is found.
+/// Where more characters of covers would enter than so many, for each instance of a model anew,
+/// nothing does, and no place is found.
 const CHARACTERS: u64 = 8_000_000;
 
 /// The steps of a pair, with what is proved of them. Contracts see the steps.
 #[derive(Drop)]
 pub struct Locator<'a> {
     pub(crate) steps: Steps<'a>,
-    /// What is proved equal under all values of the inputs, and what is under those that the assumption allows.
+    /// What is proved equal under all values of the inputs, and what is under those that the
+    /// assumption allows.
     everywhere: Partners,
     where_allowed: Partners,
     known: Known,
@@ -96,8 +99,8 @@ fn roots_of(alloc: Global, steps: &Steps<'_>) -> Result<Vec<[u32; 2]>, AllocErro
 }
 
 impl<'a> Locator<'a> {
-    /// What `of` makes of steps, in a graph that has none yet. It stands apart for its proof's sake, since the graph is let go in each exit.
-    /// Fails where memory is refused.
+    /// What `of` makes of steps, in a graph that has none yet. It stands apart for its proof's
+    /// sake, since the graph is let go in each exit. Fails where memory is refused.
     fn within(
         alloc: Global,
         steps: Steps<'a>,
@@ -136,10 +139,12 @@ impl<'a> Locator<'a> {
         })
     }
 
-    /// The steps of a pair, of which those that these outputs need enter a graph in which nodes that are found equal are one, within so
-    /// many conflicts. `outputs` marks outputs by their positions in the first netlist. `inputs` are values of the first netlist's
-    /// inputs that the assumption allows; others only mean that fewer steps have a partner. It takes time and memory in proportion to
-    /// the rows of the steps' covers, for each instance of a model anew, and to the conflicts. Fails where memory is refused.
+    /// The steps of a pair, of which those that these outputs need enter a graph in which nodes
+    /// that are found equal are one, within so many conflicts. `outputs` marks outputs by their
+    /// positions in the first netlist. `inputs` are values of the first netlist's inputs that the
+    /// assumption allows; others only mean that fewer steps have a partner. It takes time and
+    /// memory in proportion to the rows of the steps' covers, for each instance of a model anew,
+    /// and to the conflicts. Fails where memory is refused.
     pub fn of(
         alloc: Global,
         pair: &'a Pair<'a>,
@@ -154,7 +159,8 @@ impl<'a> Locator<'a> {
         Locator::within(alloc, Steps::each(alloc, pair), outputs, inputs, &mut sweep)
     }
 
-    /// Whether a step has a partner where the assumption holds, or its node is one of the other netlist too, or stands below one.
+    /// Whether a step has a partner where the assumption holds, or its node is one of the other
+    /// netlist too, or stands below one.
     pub(crate) fn is_known(&self, step: u32) -> bool {
         let is_second = step >= self.everywhere.second;
         self.where_allowed.has(step) || self.known.has(self.everywhere.literals(), step, is_second)
@@ -192,7 +198,8 @@ impl<'a> Locator<'a> {
         }
     }
 
-    /// The node that a step has where the assumption holds, or without one under all values; `NONE` where it hasn't entered.
+    /// The node that a step has where the assumption holds, or without one under all values; `NONE`
+    /// where it hasn't entered.
     pub(crate) fn node(&self, step: u32) -> u32 {
         let node = self.where_allowed.node(step);
         if node == NONE {
@@ -244,7 +251,8 @@ impl<'a> Locator<'a> {
     }
 
     #[tactic(auto, using(crate::proofs::PlaceLaws::listing_begins, crate::proofs::PlaceLaws::listing_more, crate::proofs::PlaceLaws::listing_whole, crate::proofs::PlaceLaws::column_of))]
-    /// The columns of a step with their values, or none where one has none. Fails where memory is refused.
+    /// The columns of a step with their values, or none where one has none. Fails where memory is
+    /// refused.
     fn columns(
         &self,
         alloc: Global,
@@ -275,7 +283,8 @@ impl<'a> Locator<'a> {
         Ok(Some(columns))
     }
 
-    /// What is told of a step, without what is found by simulation, or none where a value is missing. Fails where memory is refused.
+    /// What is told of a step, without what is found by simulation, or none where a value is
+    /// missing. Fails where memory is refused.
     fn place(
         &self,
         alloc: Global,
@@ -325,10 +334,11 @@ impl<'a> Locator<'a> {
     }
 
     #[tactic(auto, using(crate::proofs::PlaceLaws::located))]
-    /// The places at which an output begins to differ, by its position in the first netlist, where the first netlist's inputs have these
-    /// values, one for each; at most five in each netlist, first those of the second. What is told of a place is so under these values,
-    /// and what is a partner is one under all that the assumption allows; that it is a place, and which comes first, is found by
-    /// simulation. Fails where memory is refused.
+    /// The places at which an output begins to differ, by its position in the first netlist, where
+    /// the first netlist's inputs have these values, one for each; at most five in each netlist,
+    /// first those of the second. What is told of a place is so under these values, and what is a
+    /// partner is one under all that the assumption allows; that it is a place, and which comes
+    /// first, is found by simulation. Fails where memory is refused.
     pub fn locate(
         &self,
         alloc: Global,

@@ -7,8 +7,8 @@ use crate::words::word_at;
 /// In fewer assignments an agreement tells nothing.
 const FEWEST: u32 = 16;
 
-/// Where a signal departs from what is wanted of one with a word: the opposite where that mends, and the same where the opposite would
-/// break.
+/// Where a signal departs from what is wanted of one with a word: the opposite where that mends,
+/// and the same where the opposite would break.
 fn departs(word: u64, other: u64, turned: &Turned) -> u64 {
     (turned.mended & !(word ^ other)) | (turned.broken & (word ^ other))
 }
@@ -34,7 +34,8 @@ fn told_in(turned: &[Turned]) -> u32 {
     all
 }
 
-/// The first of these steps that has the values by which one would be mended, or their opposites, if one has.
+/// The first of these steps that has the values by which one would be mended, or their opposites,
+/// if one has.
 pub(crate) fn mending_among(
     rounds: &[Turning],
     turned: &[Turned],

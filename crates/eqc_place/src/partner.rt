@@ -59,8 +59,8 @@ fn note_first(firsts: &mut Vec<u32>, node: u32, step: u32) {
     }
 }
 
-/// The literals of steps in one graph, and for each node the first step of each netlist whose literal it has. Contracts see the literals,
-/// and nothing is believed of the rest.
+/// The literals of steps in one graph, and for each node the first step of each netlist whose
+/// literal it has. Contracts see the literals, and nothing is believed of the rest.
 #[derive(Drop)]
 pub(crate) struct Partners {
     literals: Vec<Option<u32>>,

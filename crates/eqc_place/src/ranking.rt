@@ -12,18 +12,20 @@ pub(crate) const MOST: usize = 5;
 /// How many of each are looked at in all rounds.
 pub(crate) const MOST_LOOKED_AT: usize = 60;
 
-/// So many assignments that want another value of a cover are compared with those that want the same.
+/// So many assignments that want another value of a cover are compared with those that want the
+/// same.
 const COMPARED: u32 = 100;
 
 /// A signal at which a difference may begin.
 #[derive(Clone, Copy)]
 pub(crate) struct Suspect {
     pub(crate) step: u32,
-    /// In so many assignments its opposite value mends the output, and in so many of them all others too.
+    /// In so many assignments its opposite value mends the output, and in so many of them all
+    /// others too.
     pub(crate) mended: u32,
     pub(crate) whole: u32,
-    /// In so many of them another assignment that gives its columns the same values wants the value that it has: no other cover of
-    /// these columns mends both.
+    /// In so many of them another assignment that gives its columns the same values wants the value
+    /// that it has: no other cover of these columns mends both.
     pub(crate) torn: u32,
     /// Whether it is known in the other netlist, and whether all that it uses is.
     pub(crate) is_known: bool,
@@ -76,7 +78,8 @@ pub(crate) fn rank(
     Ok(())
 }
 
-/// Whether some assignment that wants the value that a step has gives its columns the values that the bit of a round gives them.
+/// Whether some assignment that wants the value that a step has gives its columns the values that
+/// the bit of a round gives them.
 fn is_torn(
     steps: &Steps<'_>,
     rounds: &[Turning],
@@ -105,7 +108,8 @@ fn is_torn(
     false
 }
 
-/// In how many of the first assignments that want another value of a step one wants the same for the same values of its columns.
+/// In how many of the first assignments that want another value of a step one wants the same for
+/// the same values of its columns.
 pub(crate) fn torn_in(steps: &Steps<'_>, rounds: &[Turning], turned: &[Turned], step: u32) -> u32 {
     let mut compared = 0u32;
     let mut torn = 0u32;

@@ -1,4 +1,5 @@
-//! Signals on ways from an output back along which each alone turns the next one, under the assignment of a difference.
+//! Signals on ways from an output back along which each alone turns the next one, under the
+//! assignment of a difference.
 
 use crate::covers::Covers;
 use crate::words::word_at;
@@ -38,7 +39,8 @@ fn mark_turning(
     }
 }
 
-/// Marks for the steps on such ways from these two. `words` are those of the first round. Fails where memory is refused.
+/// Marks for the steps on such ways from these two. `words` are those of the first round. Fails
+/// where memory is refused.
 pub(crate) fn sensitised(
     alloc: Global,
     steps: &Steps<'_>,

@@ -26,7 +26,8 @@ pub(crate) fn value_in(table: &[Option<bool>], step: u32) -> Option<bool>
 }
 
 #[tactic(auto, using(crate::proofs::PlaceLaws::reading_begins, crate::proofs::PlaceLaws::reading_more, crate::proofs::PlaceLaws::reading_whole))]
-/// The values of steps in a table, or none where one of them has none there. Fails where memory is refused.
+/// The values of steps in a table, or none where one of them has none there. Fails where memory is
+/// refused.
 fn values_in(
     alloc: Global,
     table: &[Option<bool>],
@@ -44,7 +45,8 @@ fn values_in(
     Ok(Some(values))
 }
 
-/// The value of a step by those of the steps that it uses, or none where one of them has none. Fails where memory is refused.
+/// The value of a step by those of the steps that it uses, or none where one of them has none.
+/// Fails where memory is refused.
 fn step_value(
     alloc: Global,
     steps: &Steps<'_>,
@@ -69,7 +71,8 @@ fn step_value(
 }
 
 #[tactic(auto, using(crate::proofs::PlaceLaws::filling_begins, crate::proofs::PlaceLaws::filling_more))]
-/// The values of the steps of a pair where the first netlist's inputs have these values. Fails where memory is refused.
+/// The values of the steps of a pair where the first netlist's inputs have these values. Fails
+/// where memory is refused.
 pub(crate) fn values_under(
     alloc: Global,
     steps: &Steps<'_>,

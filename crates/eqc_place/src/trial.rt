@@ -11,10 +11,12 @@ use crate::words::{ROUNDS, words_under};
 use eqc_build::StepDriver;
 use std::alloc::{AllocError, Global};
 
-/// All covers are gone through so many times at most to turn the steps of a kind, and as many for all that are looked at in all rounds.
+/// All covers are gone through so many times at most to turn the steps of a kind, and as many for
+/// all that are looked at in all rounds.
 const PASSES: u64 = 16;
 
-/// In a small pair so many literals may be gone through for this all the same, and in a large one no more.
+/// In a small pair so many literals may be gone through for this all the same, and in a large one
+/// no more.
 const LEAST_WORK: u64 = 500_000;
 
 const MOST_WORK: u64 = 16_000_000;
@@ -48,7 +50,8 @@ pub(crate) fn scene<'x>(locator: &'x Locator<'_>, roots: [u32; 2]) -> Scene<'x> 
 }
 
 impl<'x, 'a> Trial<'x, 'a> {
-    /// Of an output of these steps, under an assignment under which it differs. Fails where memory is refused.
+    /// Of an output of these steps, under an assignment under which it differs. Fails where memory
+    /// is refused.
     pub(crate) fn of(
         alloc: Global,
         locator: &'x Locator<'a>,
@@ -94,7 +97,8 @@ impl<'x, 'a> Trial<'x, 'a> {
         self.work().saturating_add(work)
     }
 
-    /// What comes of turning a step, in the first rounds, at most so many. Fails where memory is refused.
+    /// What comes of turning a step, in the first rounds, at most so many. Fails where memory is
+    /// refused.
     fn turned(&mut self, step: u32, most: usize) -> Result<Vec<Turned>, AllocError> {
         let scene = scene(self.locator, self.roots);
         let mut all = Vec::with_capacity(self.alloc, self.rounds.len())?;
@@ -135,7 +139,8 @@ impl<'x, 'a> Trial<'x, 'a> {
         step < steps.len() && matches!(steps.driver(step), StepDriver::Cover { .. })
     }
 
-    /// Puts a step among the signals at which the output may begin to differ, by the first round. Fails where memory is refused.
+    /// Puts a step among the signals at which the output may begin to differ, by the first round.
+    /// Fails where memory is refused.
     fn try_step(&mut self, step: u32, ranked: &mut Vec<Suspect>) -> Result<(), AllocError> {
         let turned = self.turned(step, 1)?;
         let mends = match turned.first() {
@@ -149,8 +154,8 @@ impl<'x, 'a> Trial<'x, 'a> {
         Ok(())
     }
 
-    /// The same for the marked covers of a kind, from the outputs down, where little follows a turn, as long as what may be gone over for
-    /// them is left. Fails where memory is refused.
+    /// The same for the marked covers of a kind, from the outputs down, where little follows a
+    /// turn, as long as what may be gone over for them is left. Fails where memory is refused.
     fn look_at(
         &mut self,
         found: &[bool],
@@ -186,7 +191,8 @@ impl<'x, 'a> Trial<'x, 'a> {
         }
     }
 
-    /// Those of a netlist's signals at which the output may begin to differ by the first round. Fails where memory is refused.
+    /// Those of a netlist's signals at which the output may begin to differ by the first round.
+    /// Fails where memory is refused.
     fn ranked_first(
         &mut self,
         found: &[bool],
@@ -226,7 +232,8 @@ impl<'x, 'a> Trial<'x, 'a> {
         Ok(ranked)
     }
 
-    /// The signals at which the output may begin to differ, first those of the second netlist. Fails where memory is refused.
+    /// The signals at which the output may begin to differ, first those of the second netlist.
+    /// Fails where memory is refused.
     pub(crate) fn ranked(&mut self) -> Result<Vec<Suspect>, AllocError> {
         let found = self.found()?;
         let (second, end) = self.locator.second_steps();
@@ -236,7 +243,8 @@ impl<'x, 'a> Trial<'x, 'a> {
         Ok(ranked)
     }
 
-    /// A signal of the other netlist by which a step would be mended, if one is found. Fails where memory is refused.
+    /// A signal of the other netlist by which a step would be mended, if one is found. Fails where
+    /// memory is refused.
     fn mending(&mut self, step: u32) -> Result<Option<Mending>, AllocError> {
         let turned = self.turned(step, ROUNDS)?;
         let locator = self.locator;

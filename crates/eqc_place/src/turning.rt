@@ -7,8 +7,8 @@ use crate::words::word_at;
 use eqc_build::Steps;
 use std::alloc::{AllocError, Global};
 
-/// The assignments of a round that tell of a step: those under which the output differs and wouldn't with the opposite value, and those
-/// under which nothing differs and something would.
+/// The assignments of a round that tell of a step: those under which the output differs and
+/// wouldn't with the opposite value, and those under which nothing differs and something would.
 #[derive(Clone, Copy)]
 pub(crate) struct Turned {
     pub(crate) mended: u64,
@@ -17,7 +17,8 @@ pub(crate) struct Turned {
     pub(crate) whole: u64,
 }
 
-/// What is looked at: the steps of a pair, the covers of those that are marked and those that use each one, and the output's two steps.
+/// What is looked at: the steps of a pair, the covers of those that are marked and those that use
+/// each one, and the output's two steps.
 #[derive(Clone, Copy)]
 pub(crate) struct Scene<'x> {
     pub(crate) steps: &'x Steps<'x>,
@@ -37,7 +38,8 @@ pub(crate) struct Turning {
     changed: Vec<u32>,
     /// Those that use one of them.
     pending: Pending,
-    /// Assignments that are allowed and under which the output differs, and those under which some output does.
+    /// Assignments that are allowed and under which the output differs, and those under which some
+    /// output does.
     pub(crate) differing: u64,
     some: u64,
     allowed: u64,
@@ -92,7 +94,8 @@ impl Turning {
         })
     }
 
-    /// Notes another word of a step, and that those that use it may change. Fails where memory is refused.
+    /// Notes another word of a step, and that those that use it may change. Fails where memory is
+    /// refused.
     fn change(&mut self, users: &Users, step: u32, word: u64) -> Result<(), AllocError> {
         let at = step as usize;
         if at < self.turned.len() && self.turned[at] != word {
@@ -103,7 +106,8 @@ impl Turning {
         Ok(())
     }
 
-    /// Turns a step, and gives the steps above it the words that they have then. Fails where memory is refused.
+    /// Turns a step, and gives the steps above it the words that they have then. Fails where memory
+    /// is refused.
     fn turn(&mut self, scene: Scene<'_>, step: u32) -> Result<(), AllocError> {
         let word = !word_at(&self.words, step);
         self.change(scene.users, step, word)?;
@@ -144,8 +148,8 @@ impl Turning {
         })
     }
 
-    /// Which of these outputs differ, each in the bit of its number, and wouldn't with the opposite value of a step. Fails where memory is
-    /// refused.
+    /// Which of these outputs differ, each in the bit of its number, and wouldn't with the opposite
+    /// value of a step. Fails where memory is refused.
     pub(crate) fn mended_each(
         &mut self,
         scene: Scene<'_>,

@@ -1,4 +1,5 @@
-//! The values of steps under many assignments at once, as the bits of words. Nothing is believed of them.
+//! The values of steps under many assignments at once, as the bits of words. Nothing is believed of
+//! them.
 
 use crate::covers::Covers;
 use crate::partner::NONE;
@@ -25,7 +26,8 @@ impl Random {
         x.wrapping_mul(0x2545_F491_4F6C_DD1D)
     }
 
-    /// The inputs' bits in which a round departs from the assignment of the difference: one in eight, one in 32, and half of them.
+    /// The inputs' bits in which a round departs from the assignment of the difference: one in
+    /// eight, one in 32, and half of them.
     fn flips(&mut self, round: usize) -> u64 {
         match round {
             0 => self.next() & self.next() & self.next() & !1,
@@ -62,7 +64,8 @@ fn input_words(
     Ok(inputs)
 }
 
-/// The words of the steps that have covers here, by those of the variables, 0 for the others. Fails where memory is refused.
+/// The words of the steps that have covers here, by those of the variables, 0 for the others. Fails
+/// where memory is refused.
 pub(crate) fn round_words(
     alloc: Global,
     covers: &Covers,
@@ -77,8 +80,9 @@ pub(crate) fn round_words(
     Ok(words)
 }
 
-/// The words of the steps that have covers here, round by round: the first bit of the first is under the assignment of a difference, the
-/// others are under assignments near it, and by chance. Fails where memory is refused.
+/// The words of the steps that have covers here, round by round: the first bit of the first is
+/// under the assignment of a difference, the others are under assignments near it, and by chance.
+/// Fails where memory is refused.
 pub(crate) fn words_under(
     alloc: Global,
     steps: &Steps<'_>,

@@ -1,4 +1,5 @@
-//! Apply: the result of an operation on two nodes, through cache and unique table, with a stack of tasks in place of recursion.
+//! Apply: the result of an operation on two nodes, through cache and unique table, with a stack of
+//! tasks in place of recursion.
 ghost use Rattle.std.specs.Prelude.{◌≡◌, ℕ, ◌<◌, ◌+◌, ◌⊎◌, length, IfSome, IfNone, IfOk, IfErr};
 
 use crate::plain::Plain;

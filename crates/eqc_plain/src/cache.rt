@@ -1,4 +1,5 @@
-//! The operation cache, or computed table: results of operations, each in one cell, which a later result may take.
+//! The operation cache, or computed table: results of operations, each in one cell, which a later
+//! result may take.
 ghost use Rattle.std.specs.Prelude.{◌≡◌, ◌<◌, ◌^◌, ℕ, length, IfSome, None};
 ghost use Rattle.eqc_plain.specs.Cells.{IsKept, MayHave, HasNoMore};
 ghost use Rattle.eqc_plain.specs.Placing.{place_of, HasAt};

@@ -14,7 +14,7 @@ pub(crate) struct Diagram {
     pub(crate) top: usize,
 }
 
-/// Takes a number into those that are reached. The error is 72 alone.
+/// Takes a number into those that are reached. The error is `Stop::Memory` alone.
 fn reach(reached: &mut IndexSet<usize>, x: usize) -> Result<(), Stop>
     ensures takes { OnOk result (Takes reached.old.keys reached.new.keys x) }
     ensures only { IfErr result (λ s. s ≡ Stop.Memory) }
@@ -38,8 +38,8 @@ fn place(reached: &IndexSet<usize>, x: usize) -> usize
 }
 
 impl Store {
-    /// A copy of the nodes below a number, which takes as long as there are such nodes, however many others the store has.
-    /// The error is 72 alone.
+    /// A copy of the nodes below a number, which takes as long as there are such nodes, however
+    /// many others the store has. The error is `Stop::Memory` alone.
     pub(crate) fn diagram(&self, alloc: Global, f: usize) -> Result<Diagram, Stop>
         requires { f < length self.now.nodes + 2 }
         ensures diagram { IfOk result (IsDiagramOf self.now f) }
@@ -49,7 +49,8 @@ impl Store {
         self.copied(alloc, &reached, f)
     }
 
-    /// A copy of the numbers that are reached, with one of them at its top. The error is 72 alone.
+    /// A copy of the numbers that are reached, with one of them at its top. The error is
+    /// `Stop::Memory` alone.
     fn copied(&self, alloc: Global, reached: &IndexSet<usize>, f: usize) -> Result<Diagram, Stop>
         requires reached { AreReached self.now.nodes reached.now.keys }
         requires top { Has reached.now.keys f }
@@ -68,7 +69,8 @@ impl Store {
         Ok(Diagram { store: copy, top })
     }
 
-    /// The constants, a number and all below it, in ascending order, so that children come first. The error is 72 alone.
+    /// The constants, a number and all below it, in ascending order, so that children come first.
+    /// The error is `Stop::Memory` alone.
     fn reached(&self, alloc: Global, f: usize) -> Result<IndexSet<usize>, Stop>
         requires { f < length self.now.nodes + 2 }
         ensures reached { IfOk result (λ r. AreReached self.now.nodes r.keys) }
@@ -91,7 +93,8 @@ impl Store {
         }
     }
 
-    /// Takes the children of a number, where it is a node's, into those that are reached. The error is 72 alone.
+    /// Takes the children of a number, where it is a node's, into those that are reached. The error
+    /// is `Stop::Memory` alone.
     fn reach_children(&self, reached: &mut IndexSet<usize>, x: usize) -> Result<(), Stop>
         requires { x < length self.now.nodes + 2 }
         ensures follows { OnOk result (Follows self.now.nodes reached.old.keys reached.new.keys x) }
@@ -105,7 +108,8 @@ impl Store {
         reach(reached, high)
     }
 
-    /// Copies the next of the numbers that are reached, after those that have numbers in the copy. The error is 72 alone.
+    /// Copies the next of the numbers that are reached, after those that have numbers in the copy.
+    /// The error is `Stop::Memory` alone.
     fn copy_next(
         &self,
         copy: &mut Store,

@@ -1,4 +1,5 @@
-//! The least assignment under which a function in the store is true, searched for without making a node.
+//! The least assignment under which a function in the store is true, searched for without making a
+//! node.
 ghost use Rattle.std.specs.Prelude.{◌≡◌, ℕ, ◌+◌, ◌<◌, length, Some, IfOk};
 ghost use Rattle.std.specs.List.{All, find};
 ghost use Rattle.eqc_tree.specs.Assigned.{assigned, assignments, AreDistinct, DependsOnlyOn, IsSatisfiable};
@@ -10,9 +11,10 @@ use crate::store::Store;
 use std::alloc::{AllocError, Global};
 
 impl Store {
-    /// The least assignment under which a number's function is true, in lexicographic order over these variables. Fails
-    /// where memory is refused. It takes one look at the numbers up to `f`, and one for each variable that is true in an
-    /// assignment with the least values so far: a store with many nodes of other functions is copied first.
+    /// The least assignment under which a number's function is true, in lexicographic order over
+    /// these variables. Fails where memory is refused. It takes one look at the numbers up to `f`,
+    /// and one for each variable that is true in an assignment with the least values so far: a
+    /// store with many nodes of other functions is copied first.
     pub fn least(&self, alloc: Global, variables: &[u16], f: usize) -> Result<Vec<bool>, AllocError>
         requires f { f < length self.now.nodes + 2 }
         requires within { All (λ v. v < self.now.variables) variables.now }

@@ -1,4 +1,5 @@
-//! The diagrams as callers have them: a node store, an operation cache and a stack of tasks, with the calls of the traits.
+//! The diagrams as callers have them: a node store, an operation cache and a stack of tasks, with
+//! the calls of the traits.
 ghost use Rattle.std.specs.Prelude.{◌≡◌};
 ghost use Rattle.eqc_plain.specs.Cache.{IsCache};
 ghost use Rattle.eqc_plain.specs.Meaning.{meaning_of};
@@ -26,8 +27,9 @@ impl Plain {
     ghost use Rattle.std.specs.Prelude.{◌≤◌, [], None, IfOk, IfErr};
     ghost use Rattle.eqc_tree.specs.Holding.{IsNew};
 
-    /// Diagrams over `vars` variables with room for `nodes` nodes, of which there are none yet. Operations take as many turns as
-    /// they need: they stop for nodes only where all slots are taken.
+    /// Diagrams over `vars` variables with room for `nodes` nodes, of which there are none yet.
+    /// Operations take as many turns as they need: they stop for nodes only where all slots are
+    /// taken.
     ///
     /// `nodes` is from 1 to 1,048,574. The error is 72 alone.
     pub fn new(alloc: Global, vars: u16, nodes: u32) -> Result<Plain, Stop>
@@ -42,9 +44,10 @@ impl Plain {
         Plain::with_turns(alloc, vars, nodes, None)
     }
 
-    /// Diagrams as `new` makes them, whose operations may take so many turns in all beyond those that are free, the first 1,024
-    /// of each operation; as many as they need where `turns` is none. A turn is one step from a pair of operands to the next
-    /// one. Two large operands have as many pairs as the product of their sizes, also where the result is small.
+    /// Diagrams as `new` makes them, whose operations may take so many turns in all beyond those
+    /// that are free, the first 1,024 of each operation; as many as they need where `turns` is
+    /// none. A turn is one step from a pair of operands to the next one. Two large operands have as
+    /// many pairs as the product of their sizes, also where the result is small.
     pub fn with_turns(
         alloc: Global,
         vars: u16,
@@ -158,8 +161,9 @@ impl<R> Diagrams<R> for Plain {
         self.store.hold(x)
     }
 
-    /// Stops for nodes only where all slots are taken or the turns that are allowed are spent, for references as `literal` does,
-    /// and for references alone where the result is an operand or a constant whatever the functions. No call gives turns back.
+    /// Stops for nodes only where all slots are taken or the turns that are allowed are spent, for
+    /// references as `literal` does, and for references alone where the result is an operand or a
+    /// constant whatever the functions. No call gives turns back.
     fn apply(&mut self, _rt: &R, op: Op, f: &Ref, g: &Ref) -> Result<Ref, Stop>
         requires f { IsHeld (holding_in self.old.store) (entry_of f.now) }
         requires g { IsHeld (holding_in self.old.store) (entry_of g.now) }
@@ -177,8 +181,8 @@ impl<R> Diagrams<R> for Plain {
         self.store.hold(x)
     }
 
-    /// Stops for nodes as `apply` does, and for references only at 2^32 - 3 or more to one node, to which two more may come on
-    /// the way.
+    /// Stops for nodes as `apply` does, and for references only at 2^32 - 3 or more to one node, to
+    /// which two more may come on the way.
     #[tactic(auto, using(eqc_tree::proofs::HoldingLemmas::counts_itself))]
     fn ite(&mut self, rt: &R, f: &Ref, g: &Ref, h: &Ref) -> Result<Ref, Stop>
         requires f { IsHeld (holding_in self.old.store) (entry_of f.now) }
@@ -207,8 +211,8 @@ impl<R> Diagrams<R> for Plain {
         either
     }
 
-    /// Found by a search on a copy of the function's diagram, however many other nodes there are. It makes no node, and stops
-    /// for want of memory alone.
+    /// Found by a search on a copy of the function's diagram, however many other nodes there are.
+    /// It makes no node, and stops for want of memory alone.
     fn least(
         &mut self,
         _rt: &R,

@@ -1,4 +1,5 @@
-//! The search for a least assignment: values chosen so far, which nodes can still lead to true, and a way to true that is known.
+//! The search for a least assignment: values chosen so far, which nodes can still lead to true, and
+//! a way to true that is known.
 ghost use Rattle.std.specs.Prelude.{◌≡◌, ℕ, ◌+◌, ◌<◌, ◌≤◌, Bool, true, false, None, length, slice_index_or, IfOk};
 ghost use Rattle.eqc_tree.specs.Assigned.{IsSatisfiable};
 ghost use Rattle.eqc_tree.specs.Tree.{value};
@@ -8,14 +9,14 @@ ghost use Rattle.eqc_plain.specs.Searching.{Agrees, given, leads_by, rises_by, A
 use crate::store::Store;
 use std::alloc::{AllocError, Global};
 
-/// The search for the least assignment under which the function of a number `f` is true: one variable after the other
-/// gets its value. It makes no node.
+/// The search for the least assignment under which the function of a number `f` is true: one
+/// variable after the other gets its value. It makes no node.
 #[derive(Drop)]
 pub struct Search {
     /// The value of each variable that has one.
     pub(crate) choices: Vec<Option<bool>>,
-    /// For each number up to `f` whether some assignment that agrees with the choices makes its function true, as far as
-    /// they were looked at.
+    /// For each number up to `f` whether some assignment that agrees with the choices makes its
+    /// function true, as far as they were looked at.
     pub(crate) marks: Vec<bool>,
     /// Values of the variables that agree with the choices and make the function true.
     pub(crate) witness: Vec<bool>,
@@ -148,8 +149,9 @@ impl Search {
         }
     }
 
-    /// Chooses a variable's value: false where some assignment that agrees with the choices then makes the function true,
-    /// and else true. Where the witness has it at false, no node has to be looked at.
+    /// Chooses a variable's value: false where some assignment that agrees with the choices then
+    /// makes the function true, and else true. Where the witness has it at false, no node has to be
+    /// looked at.
     pub fn choose(&mut self, store: &Store, f: usize, variable: usize) -> bool
         requires search { IsSearch store.now f self.old }
         requires below { variable < store.now.variables }

@@ -1,4 +1,5 @@
-//! The node store: one node for each variable and pair of different children, found by its number, with its reference count.
+//! The node store: one node for each variable and pair of different children, found by its number,
+//! with its reference count.
 ghost use Rattle.std.specs.Prelude.{◌≡◌, ◌≢◌, ℕ, ◌<◌, ◌≤◌, ◌+◌, ◌-◌, ◌^◌, ◌⊎◌, [], length, slice_index, vec_capacity, IsOk, IfOk, IfErr, OnErr};
 ghost use Rattle.eqc_tree.specs.Word.{node_word};
 ghost use Rattle.eqc_plain.specs.Store.{IsStore};

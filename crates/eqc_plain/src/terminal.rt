@@ -1,4 +1,5 @@
-//! The terminal cases of operations, for which no node is read, and the order of operands under which a result is cached.
+//! The terminal cases of operations, for which no node is read, and the order of operands under
+//! which a result is cached.
 ghost use Rattle.std.specs.Prelude.{◌≡◌, ℕ, ◌<◌, IfSome, IfNone};
 ghost use Rattle.eqc_plain.specs.Placing.{in_order};
 ghost use Rattle.eqc_plain.specs.Terminal.{Decides, AreOperands};

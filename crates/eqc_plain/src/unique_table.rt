@@ -1,4 +1,5 @@
-//! The unique table: the word of each node, which stands in one slot only and is found by slot or by word.
+//! The unique table: the word of each node, which stands in one slot only and is found by slot or
+//! by word.
 ghost use Rattle.std.specs.Prelude.{◌≡◌, ◌≢◌, ℕ, ◌+◌, ◌<◌, ◌≤◌, [], ◌∷◌, ◌++◌, length, slice_index, IfSome, IfNone, IfOk, OnOk, IfErr, OnErr};
 ghost use Rattle.eqc_plain.specs.Seeking.{mixed_of, home_of, mark_of, position, IsFree, IsPlaced, IsSought, Puts};
 
@@ -13,12 +14,12 @@ const FEWEST_PLACES: usize = 64;
 
 const MOST_PLACES: usize = 0x100_0000;
 
-/// A word's number, counted from 1, and a mark of it above that, or 0 where a place is free. So a word that isn't the one that is
-/// looked for is hardly ever read.
+/// A word's number, counted from 1, and a mark of it above that, or 0 where a place is free. So a
+/// word that isn't the one that is looked for is hardly ever read.
 const NUMBERS: u32 = 0x10_0000;
 
-/// The words of the nodes, each once, in the order in which they came, and where each is found: in the first place from its own
-/// one on that was free when it came (open addressing).
+/// The words of the nodes, each once, in the order in which they came, and where each is found: in
+/// the first place from its own one on that was free when it came (open addressing).
 #[derive(Drop)]
 pub struct UniqueTable {
     alloc: Global,
@@ -143,8 +144,8 @@ fn put(places: &mut Vec<u32>, place: usize, word: u64, slot: usize)
     places[place] = mark(word) + slot as u32 + 1;
 }
 
-/// Puts a word that was missed into the next slot, and its number into a free place. Fails where memory is refused, and where there are
-/// as many words as a table may have.
+/// Puts a word that was missed into the next slot, and its number into a free place. Fails where
+/// memory is refused, and where there are as many words as a table may have.
 #[inline(always)]
 fn add(
     words: &mut Vec<u64>,

@@ -1,4 +1,5 @@
-//! The program `eqc`: compares two netlists, of standard input or of files, and writes the report to standard output.
+//! The program `eqc`: compares two netlists, of standard input or of files, and writes the report
+//! to standard output.
 #![tactic(auto)]
 
 #[cfg(test)]

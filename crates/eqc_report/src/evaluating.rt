@@ -1,5 +1,6 @@
-//! The value of one output of a flat netlist, made from the signals that it depends on: where many outputs differ, each under
-//! values of its own, what an output takes is not to grow with the netlist.
+//! The value of one output of a flat netlist, made from the signals that it depends on: where many
+//! outputs differ, each under values of its own, what an output takes is not to grow with the
+//! netlist.
 ghost use Rattle.std.specs.Prelude.{◌≡◌, ◌<◌, ℕ, Bool, Some, [], length, slice_index, slice_index_or, nat_eq, IfOk, OnOk, IfSome};
 ghost use Rattle.std.specs.List.{All};
 ghost use Rattle.indexmap.specs.IndexMap.{get};
@@ -86,7 +87,8 @@ impl Walk {
         Ok(())
     }
 
-    /// Goes on from a signal that was asked for: it gets its value, or those that it depends on are asked for before it.
+    /// Goes on from a signal that was asked for: it gets its value, or those that it depends on are
+    /// asked for before it.
     fn go_on(
         &mut self,
         alloc: Global,
@@ -159,8 +161,9 @@ fn walked_value(
     Ok(walk.value(signal))
 }
 
-/// The value of an output under these values of the inputs, from the signals that it depends on. Where the walk to them takes more
-/// turns than the netlist has signals, it is one pass over all signals that gives it. Fails where memory is refused.
+/// The value of an output under these values of the inputs, from the signals that it depends on.
+/// Where the walk to them takes more turns than the netlist has signals, it is one pass over all
+/// signals that gives it. Fails where memory is refused.
 pub(crate) fn output_value(
     alloc: Global,
     flat: &Flat<'_>,

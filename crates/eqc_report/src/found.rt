@@ -65,8 +65,9 @@ fn all_shown(alloc: Global, pair: &Pair<'_>, found: Vec<Found>) -> Result<Differ
     Ok(Differences { inputs, each })
 }
 
-/// The report on what the comparison of a pair found: each output that differs with the names and the values of the first
-/// netlist's inputs that show it, or that none does or no assignment is allowed. The error is `Memory` (72), where memory is refused.
+/// The report on what the comparison of a pair found: each output that differs with the names and
+/// the values of the first netlist's inputs that show it, or that none does or no assignment is
+/// allowed. The error is `Memory`, where memory is refused.
 pub fn found_report(
     alloc: Global,
     pair: &Pair<'_>,

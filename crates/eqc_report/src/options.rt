@@ -1,5 +1,5 @@
-//! What a run may use, workers, nodes, cells and levels that are shared, and the inputs and bytes that a netlist may have, each
-//! within its range, and conflicts.
+//! What a run may use, workers, nodes, cells and levels that are shared, and the inputs and bytes
+//! that a netlist may have, each within its range, and conflicts.
 ghost use Rattle.std.specs.Prelude.{◌≡◌};
 ghost use Rattle.eqc_report.specs.Options.{options_code, is_cell_count};
 
@@ -17,8 +17,8 @@ const MAX_INPUTS: u32 = 65_535;
 
 const MAX_BYTES: u32 = 2_147_483_647;
 
-/// What a comparison may use, none of which changes the answer, how wide what is compared and how long its text may be, and what is
-/// to be told.
+/// What a comparison may use, none of which changes the answer, how wide what is compared and how
+/// long its text may be, and what is to be told.
 #[derive(Clone, Copy, Debug, PartialEq, Eq)]
 pub struct Options {
     /// Workers, each with a thread of its own, 1 to 64.
@@ -33,7 +33,8 @@ pub struct Options {
     pub conflicts: u32,
     /// Inputs that the main model of a netlist may have, 0 to 65,535.
     pub inputs: u32,
-    /// Bytes that the text of a netlist may have, 0 to 2,147,483,647. An order text has its own limit.
+    /// Bytes that the text of a netlist may have, 0 to 2,147,483,647. An order text has its own
+    /// limit.
     pub bytes: u32,
     /// Whether each output that differs is told, and not the first alone.
     pub every: bool,
@@ -42,14 +43,16 @@ pub struct Options {
 impl Options {
     ghost use Rattle.std.specs.Prelude.{◌≡◌, ◌≤◌, ◌<◌, ◌^◌};
 
-    /// How many inputs the main model of a netlist may have, where that is in its range, and else as many as the range allows.
+    /// How many inputs the main model of a netlist may have, where that is in its range, and else
+    /// as many as the range allows.
     pub fn input_limit(&self) -> u16
         ensures { self.now.inputs ≤ 65535 → result ≡ self.now.inputs }
     {
         self.inputs.min(MAX_INPUTS) as u16
     }
 
-    /// How many bytes the text of a netlist may have, where that is in its range, and else as many as the range allows.
+    /// How many bytes the text of a netlist may have, where that is in its range, and else as many
+    /// as the range allows.
     pub fn byte_limit(&self) -> u32
         ensures small { result < 2 ^ 31 }
         ensures given { self.now.bytes ≤ 2147483647 → result ≡ self.now.bytes }

@@ -8,8 +8,8 @@ use eqc_netlist::Name;
 use eqc_pair::Refused;
 use eqc_tree::Stop;
 
-/// An output that differs, the values of the first netlist's inputs in order that show it, and its value under them in the first
-/// netlist: that in the second is the other one.
+/// An output that differs, the values of the first netlist's inputs in order that show it, and its
+/// value under them in the first netlist: that in the second is the other one.
 #[derive(Drop)]
 pub struct Difference {
     pub name: Name,
@@ -17,7 +17,8 @@ pub struct Difference {
     pub first: bool,
 }
 
-/// Outputs that differ, with the names of the first netlist's inputs in order, for which each has its values.
+/// Outputs that differ, with the names of the first netlist's inputs in order, for which each has
+/// its values.
 #[derive(Drop)]
 pub struct Differences {
     pub inputs: Vec<Name>,
@@ -28,8 +29,8 @@ pub struct Differences {
 #[derive(Drop)]
 pub enum Report {
     Equivalent,
-    /// The first output that differs or, where each is wanted, all of them in the first netlist's order, each with the least allowed
-    /// values under which it does.
+    /// The first output that differs or, where each is wanted, all of them in the first netlist's
+    /// order, each with the least allowed values under which it does.
     Differs(Differences),
     /// No assignment of the inputs is allowed, so nothing was compared.
     Vacuous,

@@ -23,7 +23,8 @@ pub use word::Word;
 /// So many words and names are told.
 const KEPT: usize = 10;
 
-/// An output that was seen to differ, with the names of the first netlist's inputs in order, for which it has its values.
+/// An output that was seen to differ, with the names of the first netlist's inputs in order, for
+/// which it has its values.
 #[derive(Drop)]
 pub struct Seen {
     pub inputs: Vec<Name>,
@@ -37,7 +38,8 @@ pub struct Left {
     pub compared: usize,
     /// How many of them are left.
     pub count: usize,
-    /// Words of which outputs are left, those first of which most are: at most ten, and fewer where memory was refused.
+    /// Words of which outputs are left, those first of which most are: at most ten, and fewer where
+    /// memory was refused.
     pub words: Vec<Word>,
     /// How many of the outputs that are left are of none of these words.
     pub alone: usize,
@@ -53,7 +55,8 @@ pub struct Undecided {
     seen: Option<Seen>,
 }
 
-/// The least and the greatest number of the outputs that are compared and whose names begin and end so.
+/// The least and the greatest number of the outputs that are compared and whose names begin and end
+/// so.
 fn span(pair: &Pair<'_>, before: &[u8], after: &[u8]) -> (u32, u32) {
     let outputs = pair.first().outputs();
     let mut low = u32::MAX;
@@ -111,7 +114,8 @@ fn word_between(pair: &Pair<'_>, marks: &[bool], before: Vec<u8>, after: Vec<u8>
     })
 }
 
-/// The word of the output at a position, if it has an index and outputs of its word are left. Fails where memory is refused.
+/// The word of the output at a position, if it has an index and outputs of its word are left. Fails
+/// where memory is refused.
 fn word_at(
     alloc: Global,
     pair: &Pair<'_>,
@@ -130,7 +134,8 @@ fn word_at(
     Ok(word_between(pair, marks, before, after))
 }
 
-/// Puts the word of the output at a position behind others, if there is one. Where memory is refused it stays out.
+/// Puts the word of the output at a position behind others, if there is one. Where memory is
+/// refused it stays out.
 fn add_word(alloc: Global, pair: &Pair<'_>, marks: &[bool], output: usize, words: &mut Vec<Word>)
     ensures { All (IsWordLeft pair.now marks.now) words.old.items → All (IsWordLeft pair.now marks.now) words.new.items }
 {
@@ -141,7 +146,8 @@ fn add_word(alloc: Global, pair: &Pair<'_>, marks: &[bool], output: usize, words
     }
 }
 
-/// Words of which outputs are left, those first of which most are, at most ten. Where memory is refused there are fewer.
+/// Words of which outputs are left, those first of which most are, at most ten. Where memory is
+/// refused there are fewer.
 fn words_left(alloc: Global, pair: &Pair<'_>, marks: &[bool]) -> Vec<Word>
     ensures { All (IsWordLeft pair.now marks.now) result.items }
 {
@@ -154,7 +160,8 @@ fn words_left(alloc: Global, pair: &Pair<'_>, marks: &[bool]) -> Vec<Word>
     words
 }
 
-/// Puts a name behind others, if there are fewer than so many. Where memory is refused for it, it stays out.
+/// Puts a name behind others, if there are fewer than so many. Where memory is refused for it, it
+/// stays out.
 fn add_name(alloc: Global, names: &mut Vec<Vec<u8>>, most: usize, name: &[u8])
     ensures { (map (λ name. name.items) names.new.items ≡ map (λ name. name.items) names.old.items) ⊎ (map (λ name. name.items) names.new.items ≡ map (λ name. name.items) names.old.items ++ name.now ∷ []) }
 {
@@ -165,7 +172,8 @@ fn add_name(alloc: Global, names: &mut Vec<Vec<u8>>, most: usize, name: &[u8])
     }
 }
 
-/// The names of the first outputs that are left and of none of these words, at most so many. Where memory is refused there are fewer.
+/// The names of the first outputs that are left and of none of these words, at most so many. Where
+/// memory is refused there are fewer.
 fn names_alone(
     alloc: Global,
     pair: &Pair<'_>,
@@ -234,7 +242,8 @@ impl Undecided {
         }
     }
 
-    /// Takes the chosen outputs of a pair that are not marked, which aren't known to be equal, in place of what was left before.
+    /// Takes the chosen outputs of a pair that are not marked, which aren't known to be equal, in
+    /// place of what was left before.
     pub fn take_unmarked(&mut self, pair: &Pair<'_>, marks: &[bool])
         ensures seen { self.new.seen ≡ self.old.seen }
         ensures left { IsTold pair.now marks.now self.new.left }
@@ -250,8 +259,9 @@ impl Undecided {
         self.seen = Some(seen);
     }
 
-    /// An output that is left undecided though it differs, under an allowed assignment that was seen: maybe not the least, and
-    /// maybe an output before it differs too. None where none was seen.
+    /// An output that is left undecided though it differs, under an allowed assignment that was
+    /// seen: maybe not the least, and maybe an output before it differs too. None where none was
+    /// seen.
     pub fn seen(&self) -> Option<&Seen>
         ensures { option_copied result ≡ self.now.seen }
     {
@@ -266,8 +276,8 @@ impl Undecided {
     }
 }
 
-/// Notes an output, by its position, that differs under an allowed assignment of the first netlist's inputs that was seen. Where
-/// memory is refused for it nothing is noted.
+/// Notes an output, by its position, that differs under an allowed assignment of the first
+/// netlist's inputs that was seen. Where memory is refused for it nothing is noted.
 pub fn note_seen(
     alloc: Global,
     pair: &Pair<'_>,

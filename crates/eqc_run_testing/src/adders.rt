@@ -1,6 +1,8 @@
-//! Adders, of instances of adders: a text that several tests of runs begin with, in which `;` stands for LF.
+//! Adders, of instances of adders: a text that several tests of runs begin with, in which `;`
+//! stands for LF.
 
-/// An adder of eight bits that ripples, and one that selects its upper half by the carry of the lower.
+/// An adder of eight bits that ripples, and one that selects its upper half by the carry of the
+/// lower.
 pub const ADDERS: &str =
     ".model RIP;.inputs cin a0 b0 a1 b1 a2 b2 a3 b3 a4 b4 a5 b5 a6 b6 a7 b7;.outputs s0 s1 s2 s3 s4 s5 s6 s7 cout;.subckt RC4 c=cin a0=a0 b0=b0 a1=a1 b1=b1 a2=a2 b2=b2 a3=a3 b3=b3 \\; s0=s0 s1=s1 s2=s2 s3=s3 d=m;.subckt RC4 c=m a0=a4 b0=b4 a1=a5 b1=b5 a2=a6 b2=b6 a3=a7 b3=b7 \\; s0=s4 s1=s5 s2=s6 s3=s7 d=cout;.end;.model SEL;.inputs cin a0 b0 a1 b1 a2 b2 a3 b3 a4 b4 a5 b5 a6 b6 a7 b7;.outputs s0 s1 s2 s3 s4 s5 s6 s7 cout;.subckt RC4 c=cin a0=a0 b0=b0 a1=a1 b1=b1 a2=a2 b2=b2 a3=a3 b3=b3 \\; s0=s0 s1=s1 s2=s2 s3=s3 d=m;.names zero;.names one;1;.subckt RC4 c=zero a0=a4 b0=b4 a1=a5 b1=b5 a2=a6 b2=b6 a3=a7 b3=b7 \\; s0=p0 s1=p1 s2=p2 s3=p3 d=p4;.subckt RC4 c=one a0=a4 b0=b4 a1=a5 b1=b5 a2=a6 b2=b6 a3=a7 b3=b7 \\; s0=q0 s1=q1 s2=q2 s3=q3 d=q4;.subckt MUX s=m x=p0 y=q0 z=s4;.subckt MUX s=m x=p1 y=q1 z=s5;.subckt MUX s=m x=p2 y=q2 z=s6;.subckt MUX s=m x=p3 y=q3 z=s7;.subckt MUX s=m x=p4 y=q4 z=cout;.end;.model RC4;.inputs c a0 b0 a1 b1 a2 b2 a3 b3;.outputs s0 s1 s2 s3 d;.subckt FA x=a0 y=b0 c=c s=s0 d=t1;.subckt FA x=a1 y=b1 c=t1 s=s1 d=t2;.subckt FA x=a2 y=b2 c=t2 s=s2 d=t3;.subckt FA x=a3 y=b3 c=t3 s=s3 d=d;.end;.model FA;.inputs x y c;.outputs s d;.names x y c s;100 1;010 1;001 1;111 1;.names x y c d;11- 1;1-1 1;-11 1;.end;.model MUX;.inputs s x y;.outputs z;.names s x y z;01- 1;1-1 1;.end;";
 
@@ -8,6 +10,7 @@ pub const ADDERS: &str =
 pub const WRONG_ADDERS: &str =
     ".model RIP;.inputs cin a0 b0 a1 b1 a2 b2 a3 b3 a4 b4 a5 b5 a6 b6 a7 b7;.outputs s0 s1 s2 s3 s4 s5 s6 s7 cout;.subckt RC4 c=cin a0=a0 b0=b0 a1=a1 b1=b1 a2=a2 b2=b2 a3=a3 b3=b3 \\; s0=s0 s1=s1 s2=s2 s3=s3 d=m;.subckt RC4 c=m a0=a4 b0=b4 a1=a5 b1=b5 a2=a6 b2=b6 a3=a7 b3=b7 \\; s0=s4 s1=s5 s2=s6 s3=s7 d=cout;.end;.model SEL;.inputs cin a0 b0 a1 b1 a2 b2 a3 b3 a4 b4 a5 b5 a6 b6 a7 b7;.outputs s0 s1 s2 s3 s4 s5 s6 s7 cout;.subckt RC4 c=cin a0=a0 b0=b0 a1=a1 b1=b1 a2=a2 b2=b2 a3=a3 b3=b3 \\; s0=s0 s1=s1 s2=s2 s3=s3 d=m;.names zero;.names one;.subckt RC4 c=zero a0=a4 b0=b4 a1=a5 b1=b5 a2=a6 b2=b6 a3=a7 b3=b7 \\; s0=p0 s1=p1 s2=p2 s3=p3 d=p4;.subckt RC4 c=one a0=a4 b0=b4 a1=a5 b1=b5 a2=a6 b2=b6 a3=a7 b3=b7 \\; s0=q0 s1=q1 s2=q2 s3=q3 d=q4;.subckt MUX s=m x=p0 y=q0 z=s4;.subckt MUX s=m x=p1 y=q1 z=s5;.subckt MUX s=m x=p2 y=q2 z=s6;.subckt MUX s=m x=p3 y=q3 z=s7;.subckt MUX s=m x=p4 y=q4 z=cout;.end;.model RC4;.inputs c a0 b0 a1 b1 a2 b2 a3 b3;.outputs s0 s1 s2 s3 d;.subckt FA x=a0 y=b0 c=c s=s0 d=t1;.subckt FA x=a1 y=b1 c=t1 s=s1 d=t2;.subckt FA x=a2 y=b2 c=t2 s=s2 d=t3;.subckt FA x=a3 y=b3 c=t3 s=s3 d=d;.end;.model FA;.inputs x y c;.outputs s d;.names x y c s;100 1;010 1;001 1;111 1;.names x y c d;11- 1;1-1 1;-11 1;.end;.model MUX;.inputs s x y;.outputs z;.names s x y z;01- 1;1-1 1;.end;";
 
-/// The report on the text `WRONG_ADDERS`: the first sum that differs is that behind the carry of the lower half.
+/// The report on the text `WRONG_ADDERS`: the first sum that differs is that behind the carry of
+/// the lower half.
 pub const WRONG_SUM: &str =
     "differs at s4;cin=0;a0=0;b0=0;a1=0;b1=0;a2=0;b2=0;a3=1;b3=1;a4=0;b4=0;a5=0;b5=0;a6=0;b6=0;a7=0;b7=0;first=1;second=0;";

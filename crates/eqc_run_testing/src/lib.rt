@@ -1,6 +1,7 @@
 //! What the tests of several crates need of runs.
 //!
-//! - `running`, what makes runs and looks at what they write; `together`, which sees how many workers a run has at work
+//! - `running`, what makes runs and looks at what they write; `together`, which sees how many
+//!   workers a run has at work
 //! - `adders`, texts of a hierarchy
 #![tactic(auto)]
 

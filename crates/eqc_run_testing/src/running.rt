@@ -22,10 +22,12 @@ pub const BYTES: u32 = 16_777_216;
 /// Numbers of workers, nodes, cells and forks.
 pub type Numbers = (u32, u32, u32, u32);
 
-/// Two workers, who share no operation, and as many nodes and cells as the program has where nothing is said.
+/// Two workers, who share no operation, and as many nodes and cells as the program has where
+/// nothing is said.
 pub const TWO: Numbers = (2, 65_536, 8_192, 0);
 
-/// So many nodes, and more, are given to one thread at first. With fewer a run begins in the forest that its workers share.
+/// So many nodes, and more, are given to one thread at first. With fewer a run begins in the forest
+/// that its workers share.
 const FIRST_ROOM: u32 = 1_024;
 
 /// Teams of workers, which change no report. The first two decide most pairs on one thread.
@@ -40,8 +42,8 @@ pub static TEAMS: &[Numbers] = &[
     (64, 1_023, 8_192, 0),
 ];
 
-/// How many workers are waited for in a run on several outputs: two, where there are several and they begin in the forest that they
-/// share.
+/// How many workers are waited for in a run on several outputs: two, where there are several and
+/// they begin in the forest that they share.
 pub fn two_of(numbers: Numbers) -> u32 {
     let (workers, nodes, ..) = numbers;
     if workers > 1 && nodes < FIRST_ROOM {
@@ -94,8 +96,8 @@ pub fn ran<RT: AllocGlobal + Threads + Wait + Sync, R: Read + Drop, W: Write>(
     run(rt, rt.alloc(), texts, order, None, &options(numbers), out)
 }
 
-/// A run, and how many of its workers compared outputs in the forest that they share. So many are waited for, where each has an output to
-/// compare.
+/// A run, and how many of its workers compared outputs in the forest that they share. So many are
+/// waited for, where each has an output to compare.
 pub fn ran_together<RT: AllocGlobal + Threads + Wait + Sync, R: Read + Drop, W: Write>(
     rt: &RT,
     given: Given<'_, R>,
@@ -108,8 +110,8 @@ pub fn ran_together<RT: AllocGlobal + Threads + Wait + Sync, R: Read + Drop, W: 
     (done.map(|finished| finished.status), together.count())
 }
 
-/// How many workers compared outputs in the forest that they share, of so many that are waited for, in a run that writes this report,
-/// and has its status: none where it doesn't.
+/// How many workers compared outputs in the forest that they share, of so many that are waited for,
+/// in a run that writes this report, and has its status: none where it doesn't.
 pub fn workers_on<R: Read + Drop>(
     rt: &(impl AllocGlobal + Threads + Wait + Sync),
     given: Given<'_, R>,

@@ -7,8 +7,9 @@ use std::thread;
 /// For how many turns a worker is held at most.
 const TURNS: u32 = 10_000_000;
 
-/// Sees which workers compare outputs in the forest that they share, and holds each until so many have entered an output. So all of these
-/// are seen, however soon an output is compared; where fewer were started a worker is held for very long, once.
+/// Sees which workers compare outputs in the forest that they share, and holds each until so many
+/// have entered an output. So all of these are seen, however soon an output is compared; where
+/// fewer were started a worker is held for very long, once.
 #[derive(Drop)]
 pub struct Together {
     /// How many workers are waited for.

@@ -1,4 +1,5 @@
-//! Runs in which an assumption says which assignments count, each difference is wanted, or outputs are chosen by their names.
+//! Runs in which an assumption says which assignments count, each difference is wanted, or outputs
+//! are chosen by their names.
 
 use crate::ends::holds_at;
 use crate::rows::at_once;
@@ -20,8 +21,8 @@ const BOTH: &str =
 /// Two netlists without outputs.
 const EMPTY: &str = ".model f;.end;.model g;.end;";
 
-/// What a run is given beside two netlists in one text: an order text, an assumption, whether each difference is wanted, and
-/// names of outputs.
+/// What a run is given beside two netlists in one text: an order text, an assumption, whether each
+/// difference is wanted, and names of outputs.
 type Beside = (
     Option<&'static str>,
     Option<&'static str>,
@@ -89,8 +90,8 @@ fn reader(text: Option<&'static str>) -> Option<Feed<'static>> {
     }
 }
 
-/// How many workers, of so many that are waited for, compared outputs at once in a run that writes this report, and has its status: none
-/// where it doesn't.
+/// How many workers, of so many that are waited for, compared outputs at once in a run that writes
+/// this report, and has its status: none where it doesn't.
 fn workers_with(
     rt: &(impl AllocGlobal + Threads + Wait + Sync),
     text: &'static str,
@@ -122,7 +123,8 @@ static SEVERAL: &[&str] = &[
     "both by name, in their order",
 ];
 
-/// Each row has its report with each of the teams, whose threads are started where several outputs are compared.
+/// Each row has its report with each of the teams, whose threads are started where several outputs
+/// are compared.
 fn check_rows_with(
     rt: &(impl Abort + AllocGlobal + Threads + Wait + Sync),
     rows: &'static [(&'static str, &'static str, Beside, &'static str)],

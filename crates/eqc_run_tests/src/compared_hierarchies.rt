@@ -34,7 +34,8 @@ static ROWS: &[Row<&str>] = &[
     ("wrong adders", WRONG_ADDERS, WRONG_SUM),
 ];
 
-/// The rows with several outputs to compare: in the others no two signals of an output have two structures, or there is one output.
+/// The rows with several outputs to compare: in the others no two signals of an output have two
+/// structures, or there is one output.
 static SEVERAL: &[&str] = &["adders", "wrong adders"];
 
 #[test]
@@ -67,7 +68,8 @@ fn a_small_store_stops_covers_of_covers(rt: HostRuntime) {
     same(&rt, found, true, "two nodes");
 }
 
-/// A main model of two instances, each of two instances, and so on, twenty models below one another; and an empty one.
+/// A main model of two instances, each of two instances, and so on, twenty models below one
+/// another; and an empty one.
 fn doubled(alloc: Global) -> Result<String, AllocError> {
     let models = doubling(alloc, 20)?;
     format!(in alloc; ".model f;.subckt m1;.subckt m1;.end;.model g;.end;{models}.end;")

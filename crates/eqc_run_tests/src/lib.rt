@@ -1,8 +1,10 @@
 //! The tests of runs: from texts to the bytes of a report.
 //!
 //! - `runs`, options, order texts, one text and two
-//! - `assumptions`, runs in which not every assignment counts, each difference is wanted or outputs are chosen
-//! - `compared_hierarchies`, `structures` and `inside`, what is reported of netlists; `rows`, what compares rows of these
+//! - `assumptions`, runs in which not every assignment counts, each difference is wanted or outputs
+//!   are chosen
+//! - `compared_hierarchies`, `structures` and `inside`, what is reported of netlists; `rows`, what
+//!   compares rows of these
 //! - `watching`, what a run tells of how far it is
 //! - `teams`, threads that sweep or search; `many_workers`, very many threads that compare outputs
 #![tactic(auto)]

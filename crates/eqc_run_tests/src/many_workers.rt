@@ -1,4 +1,5 @@
-//! As many workers as there may be, each of which has an output to compare: all are started, and compare at once.
+//! As many workers as there may be, each of which has an output to compare: all are started, and
+//! compare at once.
 
 use crate::ends::holds_at;
 use eqc_check::{Options, Texts};

@@ -26,8 +26,8 @@ pub fn check_runs(
     }
 }
 
-/// How many workers have to compare outputs at once in a row of this name, where the rows of these names have several outputs to
-/// compare.
+/// How many workers have to compare outputs at once in a row of this name, where the rows of these
+/// names have several outputs to compare.
 pub(crate) fn at_once(several: &[&str], name: &str, numbers: Numbers) -> u32 {
     for one in several {
         if *one == name {
@@ -37,7 +37,8 @@ pub(crate) fn at_once(several: &[&str], name: &str, numbers: Numbers) -> u32 {
     0
 }
 
-/// The same as `check_runs`. In rows of these names several outputs are compared, so that threads have to be started.
+/// The same as `check_runs`. In rows of these names several outputs are compared, so that threads
+/// have to be started.
 pub fn check_runs_by_several(
     rt: &(impl Abort + AllocGlobal + Threads + Wait + Sync),
     teams: &[Numbers],

@@ -1,5 +1,5 @@
-//! The ranges of options, order texts, and runs over one text and over two. The texts and reports are small enough to be worked
-//! out by hand.
+//! The ranges of options, order texts, and runs over one text and over two. The texts and reports
+//! are small enough to be worked out by hand.
 
 use crate::ends::{holds_at, same};
 use crate::rows::at_once;

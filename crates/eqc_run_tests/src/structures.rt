@@ -1,5 +1,5 @@
-//! Netlists that are driven alike, down to the inputs: a store of one node, which no cover of two columns fits, is enough for
-//! them. Covers that only mean the same are not looked into.
+//! Netlists that are driven alike, down to the inputs: a store of one node, which no cover of two
+//! columns fits, is enough for them. Covers that only mean the same are not looked into.
 ghost use Rattle.std.specs.Prelude.{◌+◌, ◌<◌, ◌^◌};
 
 use crate::ends::{holds, same};
@@ -74,7 +74,8 @@ fn what_both_netlists_have_is_built_for_both(rt: HostRuntime) {
     check_runs_by_several(&rt, BY_WORKERS, SHARED, SEVERAL);
 }
 
-/// Declares the bits of two numbers as inputs and those of a result as outputs, and drives the first carry.
+/// Declares the bits of two numbers as inputs and those of a result as outputs, and drives the
+/// first carry.
 fn ports(alloc: Global, text: &mut String, bits: u32) -> Result<(), AllocError> {
     text.push_str(".inputs s1 s0")?;
     for name in ["a", "b"] {
@@ -89,7 +90,8 @@ fn ports(alloc: Global, text: &mut String, bits: u32) -> Result<(), AllocError> 
     text.push_str(";.names c0;")
 }
 
-/// A bit of an arithmetic unit, which adds or gives a conjunction, a disjunction or an exclusive or. It ends with this row.
+/// A bit of an arithmetic unit, which adds or gives a conjunction, a disjunction or an exclusive
+/// or. It ends with this row.
 fn bit(alloc: Global, text: &mut String, k: u32, last_row: &str) -> Result<(), AllocError>
     requires { k + 1 < 2 ^ 32 }
 {
@@ -123,7 +125,8 @@ fn unit(
     text.push_str(".end;")
 }
 
-/// Two units of 32 bits, whose last bits end with these rows. In the order of their inputs the sums fill a store.
+/// Two units of 32 bits, whose last bits end with these rows. In the order of their inputs the sums
+/// fill a store.
 fn units(alloc: Global, first: &str, second: &str) -> Result<String, AllocError> {
     let mut text = String::new(alloc);
     unit(alloc, &mut text, "f", 32, first)?;
@@ -182,8 +185,8 @@ fn outputs_before_a_changed_one_need_no_node(rt: HostRuntime) -> Result<(), Allo
     Ok(())
 }
 
-/// Numbers of workers and nodes, and whether diagrams alone decide a pair with them that needs more nodes than the store has in
-/// which a comparison begins.
+/// Numbers of workers and nodes, and whether diagrams alone decide a pair with them that needs more
+/// nodes than the store has in which a comparison begins.
 static ROOMS: &[(u32, u32, bool)] = &[
     (2, 65_536, false),
     (1, 1_048_574, true),

@@ -1,4 +1,5 @@
-//! Runs in which several threads sweep, or search for outputs that differ: they are started, and the report is that of one.
+//! Runs in which several threads sweep, or search for outputs that differ: they are started, and
+//! the report is that of one.
 
 use crate::ends::holds_at;
 use eqc_check::{Gate, NoDiagnostics, Options, Progress, Stage, Texts, run_explained};
@@ -9,9 +10,9 @@ use std::alloc::{AllocError, Global};
 use std::sync::Wait;
 use std::thread::Threads;
 
-/// Sums of products of two inputs, modulo 2, each of inputs of its own: by a cover for each product, from the first one on in one model and
-/// from the last one on in the other. In the order of the inputs a diagram has 2 to the power of the width nodes and more, so that it
-/// doesn't fit.
+/// Sums of products of two inputs, modulo 2, each of inputs of its own: by a cover for each
+/// product, from the first one on in one model and from the last one on in the other. In the order
+/// of the inputs a diagram has 2 to the power of the width nodes and more, so that it doesn't fit.
 #[derive(Clone, Copy, Debug)]
 struct Case {
     /// The stage in which threads are started.
@@ -24,8 +25,8 @@ struct Case {
     conflicts: u32,
 }
 
-/// With very many conflicts all questions about a small netlist are asked at once, four by each of sixteen threads; with fewer they might
-/// spend more than there is.
+/// With very many conflicts all questions about a small netlist are asked at once, four by each of
+/// sixteen threads; with fewer they might spend more than there is.
 #[rattlefmt::skip]
 static CASES: &[Case] = &[
     Case { stage: Stage::Sweeping, outputs: 64, width: 16, differs: false, conflicts: 10_000_000 },
@@ -74,8 +75,8 @@ impl Output {
         place.saturating_add(1) == self.width
     }
 
-    /// Whether an input is 1 in the least difference: those of the first product and of the last one are, so that the sum of the others
-    /// is 1.
+    /// Whether an input is 1 in the least difference: those of the first product and of the last
+    /// one are, so that the sum of the others is 1.
     fn is_one(&self, input: u32) -> bool {
         let (first, second) = self.product(0);
         let (third, fourth) = self.product(self.width.saturating_sub(1));
@@ -236,8 +237,8 @@ fn writes(
     status == status_of(report) && is_text(&out, report)
 }
 
-/// How many workers there are, and how many of their threads are to be seen at once: of sixteen the first may have ended as the last
-/// begin.
+/// How many workers there are, and how many of their threads are to be seen at once: of sixteen the
+/// first may have ended as the last begin.
 #[derive(Clone, Copy)]
 struct Team {
     workers: u32,
@@ -252,7 +253,8 @@ static TEAMS: &[Team] = &[
     Team { workers: 16, seen: 8 },
 ];
 
-/// Whether runs by a team write their report, each of some, and in the last of them the team is seen in the stage.
+/// Whether runs by a team write their report, each of some, and in the last of them the team is
+/// seen in the stage.
 fn write_alike(
     rt: &(impl AllocGlobal + Threads + Wait + Sync),
     case: Case,

@@ -170,7 +170,8 @@ impl Engine {
         Ok(())
     }
 
-    /// Takes the literals of a reason into the conflict, but for the one that it is the reason of, which is there.
+    /// Takes the literals of a reason into the conflict, but for the one that it is the reason of,
+    /// which is there.
     fn take_all(&mut self, graph: &Graph, reason: Reason) -> Result<(), AllocError> {
         match reason {
             Reason::Decided => {}
@@ -191,8 +192,8 @@ impl Engine {
         Ok(())
     }
 
-    /// Resolves a clause that is false with the reasons of its literals of the last level, the latest first, until so
-    /// many are open. Gives the latest of these.
+    /// Resolves a clause that is false with the reasons of its literals of the last level, the
+    /// latest first, until so many are open. Gives the latest of these.
     fn resolve(&mut self, graph: &Graph, conflict: Reason, left: u32) -> Result<u32, AllocError> {
         self.analysis.clear();
         self.analysis.open = 0;
@@ -218,7 +219,8 @@ impl Engine {
         Ok(NONE)
     }
 
-    /// Whether all other literals of a reason are in the conflict, so that those imply the one of this node.
+    /// Whether all other literals of a reason are in the conflict, so that those imply the one of
+    /// this node.
     fn is_implied(&self, graph: &Graph, node: u32, reason: Reason) -> bool {
         match reason {
             Reason::Decided => false,
@@ -263,7 +265,8 @@ impl Engine {
         Ok(())
     }
 
-    /// Notes that the nodes that led to the conflict were in one, in the order in which they last were.
+    /// Notes that the nodes that led to the conflict were in one, in the order in which they last
+    /// were.
     fn bump_in_order(&mut self) -> Result<(), AllocError> {
         self.analysis.stamped.clear();
         for at in 0..number(self.analysis.touched.len()) {
@@ -279,8 +282,8 @@ impl Engine {
         Ok(())
     }
 
-    /// Learns from a clause that is false while decisions hold: `analysis` has the clause and its hints afterwards.
-    /// Gives the level to go back to, and the number of levels of the clause.
+    /// Learns from a clause that is false while decisions hold: `analysis` has the clause and its
+    /// hints afterwards. Gives the level to go back to, and the number of levels of the clause.
     pub(crate) fn analyze(
         &mut self,
         graph: &Graph,
@@ -301,8 +304,8 @@ impl Engine {
         Ok((self.analysis.second_level(&self.values), glue))
     }
 
-    /// Finds the hints that show that the assumptions can't be true together, from a clause that is false while no
-    /// decision holds.
+    /// Finds the hints that show that the assumptions can't be true together, from a clause that is
+    /// false while no decision holds.
     pub(crate) fn explain(&mut self, graph: &Graph, conflict: Reason) -> Result<(), AllocError> {
         self.resolve(graph, conflict, 0)?;
         self.analysis

@@ -29,12 +29,14 @@ const ENTERED: Link = Link {
     ..UNLINKED
 };
 
-/// The nodes that may be decided: those that were in a conflict in a row, the others by their heights.
+/// The nodes that may be decided: those that were in a conflict in a row, the others by their
+/// heights.
 #[derive(Drop)]
 pub(crate) struct Decisions {
     /// Those that were in none. One that was in a conflict since it came here counts no more.
     heights: Heights,
-    /// By node: its place in the row; the value that it last had, and the one that it has at the beginning of a question.
+    /// By node: its place in the row; the value that it last had, and the one that it has at the
+    /// beginning of a question.
     links: Vec<Link>,
     phases: Vec<bool>,
     first_phases: Vec<bool>,
@@ -85,7 +87,8 @@ impl Decisions {
         write(&mut self.phases, node, value);
     }
 
-    /// Sets the value that a node, for which there may be no room yet, has at the beginning of each question.
+    /// Sets the value that a node, for which there may be no room yet, has at the beginning of each
+    /// question.
     pub(crate) fn set_first_phase(&mut self, node: u32, value: bool) -> Result<(), AllocError> {
         lengthen(&mut self.phases, node.saturating_add(1), false)?;
         lengthen(&mut self.first_phases, node.saturating_add(1), false)?;
@@ -152,7 +155,8 @@ impl Decisions {
         None
     }
 
-    /// Notes the nodes without their places in the window, before these change. Until they are settled none may be taken out.
+    /// Notes the nodes without their places in the window, before these change. Until they are
+    /// settled none may be taken out.
     pub(crate) fn loosen(&mut self, window: &Window) {
         self.heights.loosen(window);
     }

@@ -10,7 +10,8 @@ use crate::window::Window;
 use eqc_graph::{Graph, Node, node_of};
 use std::alloc::{AllocError, Global};
 
-/// So many gates are in the first window. To lay out a window takes as long as most refutations, so the first one is small.
+/// So many gates are in the first window. To lay out a window takes as long as most refutations, so
+/// the first one is small.
 const FIRST_WINDOW: u32 = 20;
 
 /// A window that is made larger has at least so many times as many gates.
@@ -19,16 +20,16 @@ const LEAST_GROWTH: u32 = 2;
 /// To take a gate into the window counts as so many visits.
 const TAKEN_IN: u64 = 4;
 
-/// The work that isn't among visits: to take a gate into the window, to free a literal that may be decided again, and to resolve a
-/// conflict with a literal.
+/// The work that isn't among visits: to take a gate into the window, to free a literal that may be
+/// decided again, and to resolve a conflict with a literal.
 const WORK_TAKEN_IN: u64 = 12;
 
 const WORK_FREED: u64 = 4;
 
 pub(crate) const WORK_RESOLVED: u64 = 4;
 
-/// All that a search keeps of a question, and of earlier ones to begin with. Where they are about one graph, the window and
-/// the learned clauses stay too.
+/// All that a search keeps of a question, and of earlier ones to begin with. Where they are about
+/// one graph, the window and the learned clauses stay too.
 #[derive(Drop)]
 pub(crate) struct Engine {
     pub(crate) values: Values,
@@ -111,7 +112,8 @@ impl Engine {
         Ok(())
     }
 
-    /// Begins a question. Gives an assumption that is false because of another one or by itself, if there is one.
+    /// Begins a question. Gives an assumption that is false because of another one or by itself, if
+    /// there is one.
     pub(crate) fn begin(
         &mut self,
         graph: &Graph,
@@ -181,8 +183,9 @@ impl Engine {
         Ok(())
     }
 
-    /// Goes on where all that follows is there: a restart, a decision, or a larger window. Says whether there was
-    /// something to do. If not, all gates that have a value have it from their operands.
+    /// Goes on where all that follows is there: a restart, a decision, or a larger window. Says
+    /// whether there was something to do. If not, all gates that have a value have it from their
+    /// operands.
     pub(crate) fn go_on(&mut self, graph: &Graph) -> Result<bool, AllocError> {
         if self.restarts.is_due() {
             self.restart()?;
@@ -234,8 +237,9 @@ impl Engine {
         self.analysis.clear();
     }
 
-    /// Forgets the window, and what was learned, since the next question is about another graph. What is answered doesn't depend on what
-    /// was asked before, so that it doesn't matter which of several searches is asked.
+    /// Forgets the window, and what was learned, since the next question is about another graph.
+    /// What is answered doesn't depend on what was asked before, so that it doesn't matter which of
+    /// several searches is asked.
     pub(crate) fn forget(&mut self) {
         self.learned.clear();
         self.restarts = Restarts::new();

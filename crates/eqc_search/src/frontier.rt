@@ -1,12 +1,13 @@
-//! The gates at the edge of a window, of which the highest is next: of two of one height the later one.
+//! The gates at the edge of a window, of which the highest is next: of two of one height the later
+//! one.
 use crate::reads::{NONE, lengthen, number, read, write};
 use std::alloc::{AllocError, Global};
 
 /// So many gates of one height are put in order by insertion: mostly there are one or two.
 const FEW: usize = 16;
 
-/// Gates by their heights. A gate that comes is mostly lower than the last one that was taken out, so that those of one height are put in
-/// order once.
+/// Gates by their heights. A gate that comes is mostly lower than the last one that was taken out,
+/// so that those of one height are put in order once.
 #[derive(Drop)]
 pub(crate) struct Frontier {
     /// By height: the gate that came last. By gate: the one of its height that came before it.

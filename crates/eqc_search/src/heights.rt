@@ -1,10 +1,11 @@
-//! Nodes that may be decided, of which the highest is next: those that have a place in the window as bits of a row, the others in a heap.
+//! Nodes that may be decided, of which the highest is next: those that have a place in the window
+//! as bits of a row, the others in a heap.
 use crate::reads::{NONE, lengthen, read, write};
 use crate::window::Window;
 use std::alloc::{AllocError, Global};
 
-/// A node with its height, or another number, as one number: of two nodes that of the higher one is greater, and of two of one height that of
-/// the later one.
+/// A node with its height, or another number, as one number: of two nodes that of the higher one is
+/// greater, and of two of one height that of the later one.
 pub(crate) fn ranked(height: u32, node: u32) -> u64 {
     u64::from(height) << 32 | u64::from(node)
 }
@@ -24,7 +25,8 @@ pub(crate) struct Heights {
     /// A heap, in a row with room for each node.
     heap: Vec<u64>,
     size: u32,
-    /// By place: whether the node is here. By 64 places: whether one of them is. No word of these before `first` has a bit.
+    /// By place: whether the node is here. By 64 places: whether one of them is. No word of these
+    /// before `first` has a bit.
     bits: Vec<u64>,
     groups: Vec<u64>,
     first: u32,
@@ -198,7 +200,8 @@ impl Heights {
         Some(node_in(self.ranked_at(self.size)))
     }
 
-    /// Notes the nodes without their places, before these change. Until they are settled none may be taken out.
+    /// Notes the nodes without their places, before these change. Until they are settled none may
+    /// be taken out.
     pub(crate) fn loosen(&mut self, window: &Window) {
         for _ in 0..self.placed {
             let Some(place) = self.first_place() else {

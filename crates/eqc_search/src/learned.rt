@@ -24,7 +24,8 @@ const NO_CLAUSE: Clause = Clause {
     number: NONE,
 };
 
-/// One of a clause's two watches. The watches 2 k and 2 k + 1 are of the first and second literal of clause k.
+/// One of a clause's two watches. The watches 2 k and 2 k + 1 are of the first and second literal
+/// of clause k.
 #[derive(Clone, Copy)]
 pub(crate) struct Watch {
     /// A literal of the clause: nothing is to do while it is true.
@@ -170,7 +171,8 @@ impl Learned {
         self.link(second, at.wrapping_add(1), first);
     }
 
-    /// Puts a clause with the number that it has in the store behind the others, and gives its place.
+    /// Puts a clause with the number that it has in the store behind the others, and gives its
+    /// place.
     pub(crate) fn add(
         &mut self,
         clause: &[u32],
@@ -198,7 +200,8 @@ impl Learned {
         self.dropped.pop()
     }
 
-    /// Drops the worse half of those that aren't the reason of a value. Only where no decision holds.
+    /// Drops the worse half of those that aren't the reason of a value. Only where no decision
+    /// holds.
     pub(crate) fn reduce(&mut self, values: &mut Values) -> Result<(), AllocError> {
         let clauses = self.len();
         self.stays.clear();

@@ -1,4 +1,5 @@
-//! What follows from the values there are: along the gates of the window, and along the learned clauses.
+//! What follows from the values there are: along the gates of the window, and along the learned
+//! clauses.
 use crate::engine::Engine;
 use crate::reads::{NONE, literal_of, node_at};
 use crate::values::{Reason, Value};
@@ -36,7 +37,8 @@ impl Engine {
         None
     }
 
-    /// Makes true what learned clauses of one literal say. Gives one that is false, if there is one.
+    /// Makes true what learned clauses of one literal say. Gives one that is false, if there is
+    /// one.
     pub(crate) fn assert_units(&mut self) -> Option<Reason> {
         for place in 0..self.learned.len() {
             if let Some(literal) = self.learned.unit(place) {
@@ -78,7 +80,8 @@ impl Engine {
         }
     }
 
-    /// Lets the operands of a gate that has got a value be decided, and makes true what follows for them.
+    /// Lets the operands of a gate that has got a value be decided, and makes true what follows for
+    /// them.
     fn visit_gate(&mut self, graph: &Graph, node: u32, literal: u32) -> Option<Reason> {
         self.visit();
         match node_at(graph, node) {
@@ -157,7 +160,8 @@ impl Engine {
         }
     }
 
-    /// Makes true what follows for the gates of which a node is an operand, now that a literal of it is true.
+    /// Makes true what follows for the gates of which a node is an operand, now that a literal of
+    /// it is true.
     fn visit_fanouts(&mut self, node: u32, literal: u32) -> Option<Reason> {
         let mut at = self.window.first_fanout(node);
         for _ in 0..self.window.fanouts() {
@@ -235,7 +239,8 @@ impl Engine {
         None
     }
 
-    /// Finds another literal for a watch of a clause, whose literal is false, or makes true the one that is left.
+    /// Finds another literal for a watch of a clause, whose literal is false, or makes true the one
+    /// that is left.
     fn visit_clause(&mut self, watch: u32) -> Watched {
         let place = watch / 2;
         let (begin, end) = self.learned.bounds(place);

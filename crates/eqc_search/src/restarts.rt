@@ -1,5 +1,5 @@
-//! When all decisions are taken back: after numbers of conflicts that are 64 times those of Luby's sequence, 1, 1, 2, 1,
-//! 1, 2, 4, and so on.
+//! When all decisions are taken back: after numbers of conflicts that are 64 times those of Luby's
+//! sequence, 1, 1, 2, 1, 1, 2, 4, and so on.
 
 /// So many conflicts is the shortest run.
 const UNIT: u32 = 64;

@@ -42,16 +42,19 @@ pub struct Budget {
     pub conflicts: u64,
     /// Literals visited, of gates and of learned clauses.
     pub visits: u64,
-    /// What takes time, one for each literal visited, and as much more as the rest takes: to lay out windows, to order decisions
-    /// and to learn from conflicts.
+    /// What takes time, one for each literal visited, and as much more as the rest takes: to lay
+    /// out windows, to order decisions and to learn from conflicts.
     pub work: u64,
-    /// How many times as many gates a window may have each time that it is made larger: two at least.
+    /// How many times as many gates a window may have each time that it is made larger: two at
+    /// least.
     pub growth: u32,
-    /// From so many conflicts on, the nodes of each are noted in the order in which they last were in one, and before that as they are met.
+    /// From so many conflicts on, the nodes of each are noted in the order in which they last were
+    /// in one, and before that as they are met.
     pub ordered_from: u64,
 }
 
-/// A search, with the memory that it needs for graphs of the largest size that it met. Contracts see the clauses that it learned.
+/// A search, with the memory that it needs for graphs of the largest size that it met. Contracts
+/// see the clauses that it learned.
 pub struct Search {
     engine: Engine,
     store: Clauses,
@@ -67,7 +70,8 @@ impl Model for Search {
     ghost view = { λ s. s.store };
 }
 
-/// It stands here for the sake of proofs: where a search is let go there is a call in place of all its parts.
+/// It stands here for the sake of proofs: where a search is let go there is a call in place of all
+/// its parts.
 impl Drop for Search {
     fn drop(self) {
         let Search {
@@ -92,22 +96,23 @@ impl Search {
         }
     }
 
-    /// The values of inputs' nodes under the assignment that the last question found, if it was answered by one. What
-    /// has no value here may have any. Nothing is promised of it.
+    /// The values of inputs' nodes under the assignment that the last question found, if it was
+    /// answered by one. What has no value here may have any. Nothing is promised of it.
     pub fn model(&self) -> &[(u32, bool)] {
         self.model.as_slice()
     }
 
-    /// Lets decisions on a node begin with this value in each question, until the search has given it another one. The node may be one
-    /// that comes next in a graph. Fails where memory is refused.
+    /// Lets decisions on a node begin with this value in each question, until the search has given
+    /// it another one. The node may be one that comes next in a graph. Fails where memory is
+    /// refused.
     pub fn prefer(&mut self, node: u32, value: bool) -> Result<(), AllocError>
         ensures { self.new ≡ self.old }
     {
         self.engine.decisions.set_first_phase(node, value)
     }
 
-    /// Answers whether the assumptions, literals of the graph, can be true together, unless the budget is used up
-    /// before. Fails where memory is refused.
+    /// Answers whether the assumptions, literals of the graph, can be true together, unless the
+    /// budget is used up before. Fails where memory is refused.
     pub fn ask(
         &mut self,
         graph: &Graph,
@@ -122,8 +127,8 @@ impl Search {
         self.ask_again(graph, assumptions, budget)
     }
 
-    /// Answers the same, with what was learned from earlier questions about the graph. So many questions that are like one
-    /// another cost less together. Fails where memory is refused.
+    /// Answers the same, with what was learned from earlier questions about the graph. So many
+    /// questions that are like one another cost less together. Fails where memory is refused.
     pub fn ask_again(
         &mut self,
         graph: &Graph,
@@ -207,7 +212,8 @@ impl Search {
         Ok(true)
     }
 
-    /// Goes on where there is no conflict. Says whether there was something to do; if not, the model is read.
+    /// Goes on where there is no conflict. Says whether there was something to do; if not, the
+    /// model is read.
     fn go_on(&mut self, graph: &Graph) -> Result<bool, AllocError>
         requires { IsSound graph.now self.old }
         ensures { IsSound graph.now self.new }

@@ -83,8 +83,9 @@ pub(crate) struct Window {
     gates: u32,
     /// The height of the highest node that was looked at.
     highest: u32,
-    /// The nodes that are in order, the highest first: gates as they came in, of which so many are there, and where the edge is in order too
-    /// what is there. A gate that came in late and is higher than one before it has no place.
+    /// The nodes that are in order, the highest first: gates as they came in, of which so many are
+    /// there, and where the edge is in order too what is there. A gate that came in late and is
+    /// higher than one before it has no place.
     order: Vec<u32>,
     ordered: u32,
     /// The last gate that is in order.
@@ -111,7 +112,8 @@ impl Window {
         }
     }
 
-    /// Makes room for the nodes of a graph. The last node of the graph before may be another one since.
+    /// Makes room for the nodes of a graph. The last node of the graph before may be another one
+    /// since.
     pub(crate) fn grow(&mut self, graph: &Graph) -> Result<(), AllocError> {
         let nodes = graph.len();
         let known = number(self.seats.len());
@@ -147,7 +149,8 @@ impl Window {
         ranked(self.height(node), node)
     }
 
-    /// The place of a node among those that are in order, or none: the node of a lesser one is higher.
+    /// The place of a node among those that are in order, or none: the node of a lesser one is
+    /// higher.
     #[inline(always)]
     pub(crate) fn place(&self, node: u32) -> u32 {
         self.seat(node).place
@@ -243,7 +246,8 @@ impl Window {
         self.seat_gate(gate)
     }
 
-    /// Lets a node at the edge be a gate that is propagated, and gives it the next place if it is lower than the gates that have one.
+    /// Lets a node at the edge be a gate that is propagated, and gives it the next place if it is
+    /// lower than the gates that have one.
     fn seat_gate(&mut self, gate: u32) -> Result<(), AllocError> {
         let part = Part::Gate;
         let seat = self.seat(gate);
@@ -286,7 +290,8 @@ impl Window {
         self.order.truncate(self.ordered as usize);
     }
 
-    /// Gives the nodes at the edge places too, behind those of the gates: that pays in a long search.
+    /// Gives the nodes at the edge places too, behind those of the gates: that pays in a long
+    /// search.
     pub(crate) fn arrange(&mut self) -> Result<(), AllocError> {
         self.disarrange();
         self.is_arranged = true;
@@ -324,7 +329,8 @@ impl Window {
         Ok(())
     }
 
-    /// Takes in the highest gates at the edge until there are so many. None at the edge has a place.
+    /// Takes in the highest gates at the edge until there are so many. None at the edge has a
+    /// place.
     fn take_in_highest(&mut self, graph: &Graph, most: u32) -> Result<(), AllocError> {
         for _ in self.gates..most {
             let Some(gate) = self.frontier.pop()? else {

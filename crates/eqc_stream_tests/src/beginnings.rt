@@ -1,5 +1,6 @@
-//! Each beginning of a text, as of one that was cut off, has its own report. The tables are what `scripts/dev/beginnings` finds, which reads
-//! a beginning without `eqc` and evaluates both netlists under all assignments; `scripts/dev/beginnings --check` compares them.
+//! Each beginning of a text, as of one that was cut off, has its own report. The tables are what
+//! `scripts/dev/beginnings` finds, which reads a beginning without `eqc` and evaluates both
+//! netlists under all assignments; `scripts/dev/beginnings --check` compares them.
 
 use crate::ends::holds_at;
 use eqc_check::Texts;

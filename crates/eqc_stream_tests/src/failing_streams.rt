@@ -1,5 +1,6 @@
-//! Readers that give a byte a read and fail at each of their calls, and writers that fail, take nothing or take one byte at each of
-//! theirs. Of a text that isn't read nothing is written, and what a writer took before it failed is the beginning of the report.
+//! Readers that give a byte a read and fail at each of their calls, and writers that fail, take
+//! nothing or take one byte at each of theirs. Of a text that isn't read nothing is written, and
+//! what a writer took before it failed is the beginning of the report.
 
 use crate::beginnings::LATCH;
 use crate::ends::{holds_at, same};
@@ -45,8 +46,9 @@ static EACH: &[Failing] = &[
     Failing::Assume,
 ];
 
-/// How a run ends whose readers give a text, and an order text, and of which this one fails at this call; and whether nothing is written.
-/// A reader fails once, so a run that tried again would go on.
+/// How a run ends whose readers give a text, and an order text, and of which this one fails at this
+/// call; and whether nothing is written. A reader fails once, so a run that tried again would go
+/// on.
 fn ended<'x>(
     rt: &(impl AllocGlobal + Threads + Wait + Sync),
     text: &'x str,
@@ -201,7 +203,8 @@ fn is_beginning(bytes: &[u8], report: &str) -> bool {
     true
 }
 
-/// How a run over such a writer ends, how much of its report was written, and how often it is called.
+/// How a run over such a writer ends, how much of its report was written, and how often it is
+/// called.
 fn written(
     rt: &(impl AllocGlobal + Threads + Wait + Sync),
     text: &str,

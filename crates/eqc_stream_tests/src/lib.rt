@@ -1,7 +1,9 @@
-//! The tests of what runs read and write: texts that come in parts, are cut off or fail, and reports whose writers fail.
+//! The tests of what runs read and write: texts that come in parts, are cut off or fail, and
+//! reports whose writers fail.
 //!
 //! - `reports`, their bytes; `messages`, what stops and faults say
-//! - `streams`, readers that give little a read, and readers and writers that fail; `failing_streams`, at each of their calls
+//! - `streams`, readers that give little a read, and readers and writers that fail;
+//!   `failing_streams`, at each of their calls
 //! - `beginnings`, texts that are cut off
 #![tactic(auto)]
 

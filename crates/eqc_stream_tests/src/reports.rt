@@ -7,8 +7,8 @@ use eqc_testing::{Drain, NEVER, is_text};
 use eqc_tree::Stop;
 use std::alloc::{AllocError, Global};
 
-/// Writers, by how many bytes one takes at most, which write fails and whether it flushes; then the outcome of writing
-/// the report `equivalent`, and what was written.
+/// Writers, by how many bytes one takes at most, which write fails and whether it flushes; then the
+/// outcome of writing the report `equivalent`, and what was written.
 pub static WRITERS: &[(usize, usize, bool, Result<(), RunFault>, &str)] = &[
     (NEVER, NEVER, true, Ok(()), "equivalent;"),
     (1, NEVER, true, Ok(()), "equivalent;"),

@@ -21,7 +21,8 @@ const FIRST: &str = ".model f;.inputs x y;.outputs z;.names x y z;11 1;";
 
 const SECOND: &str = ".model g;.inputs x y;.outputs z;.names x y z;0- 0;-0 0;";
 
-/// How many bytes a read gives at most, and how many reads it takes to read `.model m;` and to see its end.
+/// How many bytes a read gives at most, and how many reads it takes to read `.model m;` and to see
+/// its end.
 static READS: &[(usize, usize)] = &[(1, 10), (4, 4), (100, 2)];
 
 /// Whether a text of one model is read whole in so many reads, each of at most so many bytes.
@@ -53,8 +54,8 @@ fn a_text_is_read_whole(rt: HostRuntime) {
     }
 }
 
-/// Gives a text, one byte a read, and notes in a number that several share which of them is read: a digit where it is another one than
-/// before.
+/// Gives a text, one byte a read, and notes in a number that several share which of them is read: a
+/// digit where it is another one than before.
 #[derive(Drop)]
 struct Noting<'a> {
     feed: Feed<'a>,
@@ -84,7 +85,8 @@ impl<'a> Noting<'a> {
     }
 }
 
-/// The readers of a run in their turn, where all are read whole: of one text or of two, of an order text and of an assumption's.
+/// The readers of a run in their turn, where all are read whole: of one text or of two, of an order
+/// text and of an assumption's.
 fn read_in_turn(rt: &(impl AllocGlobal + Threads + Wait + Sync), is_one: bool) -> Option<u64> {
     let noted = AtomicU64::new(0);
     let texts = if is_one {
@@ -122,8 +124,8 @@ fn a_failed_read_is_not_tried_again(rt: HostRuntime) {
     }
 }
 
-/// Whether a text that comes in such steps is reported to be equivalent, and two workers compare outputs at once where it has two to
-/// compare and they share a forest from the beginning.
+/// Whether a text that comes in such steps is reported to be equivalent, and two workers compare
+/// outputs at once where it has two to compare and they share a forest from the beginning.
 fn is_equivalent_by_steps(
     rt: &(impl AllocGlobal + Threads + Wait + Sync),
     text: &str,
@@ -174,8 +176,8 @@ fn nothing_is_written_after_a_failed_read(rt: HostRuntime) {
     }
 }
 
-/// Whether a run on adders ends so over a writer, which takes this before it fails, and two workers compare outputs at once where they
-/// share a forest from the beginning.
+/// Whether a run on adders ends so over a writer, which takes this before it fails, and two workers
+/// compare outputs at once where they share a forest from the beginning.
 fn is_written(
     rt: &(impl AllocGlobal + Threads + Wait + Sync),
     out: Drain,
@@ -203,7 +205,8 @@ fn a_part_is_written_before_a_failed_write(rt: HostRuntime) {
     }
 }
 
-/// The longest text has 16,777,216 bytes. One more is read, in blocks of 65,536 bytes, and no other.
+/// The longest text has 16,777,216 bytes. One more is read, in blocks of 65,536 bytes, and no
+/// other.
 #[test]
 fn a_text_without_end_is_too_long(rt: HostRuntime) {
     let mut endless = Endless::new();
@@ -225,7 +228,8 @@ static BLOCKS: &[(u32, usize)] = &[
     (20_000_000, 306),
 ];
 
-/// Whether a run that allows so many bytes of a text without end takes one more, in so many blocks, and refuses it.
+/// Whether a run that allows so many bytes of a text without end takes one more, in so many blocks,
+/// and refuses it.
 fn stops_reading(
     rt: &(impl AllocGlobal + Threads + Wait + Sync),
     bytes: u32,

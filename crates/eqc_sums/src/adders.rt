@@ -1,4 +1,5 @@
-//! Adders that are found in a graph: sums and carries of three literals, by their nodes. Nothing is believed of it.
+//! Adders that are found in a graph: sums and carries of three literals, by their nodes. Nothing is
+//! believed of it.
 ghost use Rattle.std.specs.Prelude.{◌≡◌};
 ghost use Rattle.eqc_sums.specs.Forms.{Keeps};
 
@@ -27,7 +28,8 @@ pub(crate) struct Known {
     pub(crate) support: Support,
     /// The nodes of which it is the exclusive or, itself where these are many or it is none.
     leaves: Support,
-    /// Whether its polynomial has few terms: few inputs are below it, or it is the exclusive or of few conjunctions of inputs.
+    /// Whether its polynomial has few terms: few inputs are below it, or it is the exclusive or of
+    /// few conjunctions of inputs.
     is_small: bool,
     /// Whether it has since what is below its gate cancels out in an exclusive or.
     is_cancelled: bool,
@@ -43,9 +45,11 @@ pub(crate) struct Known {
     merged: Vec<(u32, u32)>,
     pub(crate) sums: Vec<Block>,
     pub(crate) carries: Vec<Block>,
-    /// Three literals whose carry it is, the first of which has the other polarity in a carry that comes before it.
+    /// Three literals whose carry it is, the first of which has the other polarity in a carry that
+    /// comes before it.
     pub(crate) relations: Vec<Block>,
-    /// Complements of which it is the conjunction, though it isn't made of them, and its literal that is.
+    /// Complements of which it is the conjunction, though it isn't made of them, and its literal
+    /// that is.
     pub(crate) others: Vec<(u32, u32, u32)>,
 }
 
@@ -56,7 +60,8 @@ pub(crate) struct Adders {
     pub(crate) nodes: Vec<Known>,
     /// How many inputs are few.
     few: usize,
-    /// Whether it is asked for carries of each sum without an adder of three literals, and not only of those without any.
+    /// Whether it is asked for carries of each sum without an adder of three literals, and not only
+    /// of those without any.
     is_thorough: bool,
     /// For so many of the first nodes adders were looked for.
     seen: u32,
@@ -65,7 +70,8 @@ pub(crate) struct Adders {
     begun: u32,
 }
 
-/// So many times as many nodes as there were at first, and as many times this number at least, may be made for a form.
+/// So many times as many nodes as there were at first, and as many times this number at least, may
+/// be made for a form.
 const GROWTH: u32 = 2;
 
 const FEWEST: u32 = 1_000;
@@ -135,7 +141,8 @@ impl Adders {
         }
     }
 
-    /// How many nodes the graph may have before a form is given up: in steps that are in vain more and more products are made.
+    /// How many nodes the graph may have before a form is given up: in steps that are in vain more
+    /// and more products are made.
     pub(crate) fn most(&self) -> u32 {
         let more = self.first.max(FEWEST).saturating_mul(GROWTH);
         self.begun.saturating_add(more)
@@ -191,13 +198,14 @@ impl Adders {
         }
     }
 
-    /// Whether a node stands for a conjunction of inputs that stays as it is. Where all that is above conjunctions of two inputs is taken
-    /// for an adder, such a one may be a carry.
+    /// Whether a node stands for a conjunction of inputs that stays as it is. Where all that is
+    /// above conjunctions of two inputs is taken for an adder, such a one may be a carry.
     pub(crate) fn is_left(&self, node: u32) -> bool {
         self.few > PAIR && self.is_plain(node)
     }
 
-    /// Whether a sum may be taken for its adder: what comes of that is below it, but for a carry that isn't a sum.
+    /// Whether a sum may be taken for its adder: what comes of that is below it, but for a carry
+    /// that isn't a sum.
     pub(crate) fn is_useful(&self, node: u32, block: &Block) -> bool {
         let level = self.level(node);
         let carry = node_of(block.carry);
@@ -276,7 +284,8 @@ impl Adders {
         }
     }
 
-    /// The nodes of which two literals' exclusive or is one, itself where these are many. Nothing where no node is of both.
+    /// The nodes of which two literals' exclusive or is one, itself where these are many. Nothing
+    /// where no node is of both.
     fn cancelled(&self, x: u32, y: u32) -> Option<Support> {
         let leaves = differing(self.leaves(x), self.leaves(y));
         let both = self
@@ -479,7 +488,8 @@ impl Adders {
         }
     }
 
-    /// The pair of a node at a place of its list, behind which those come that it was found to be the difference of.
+    /// The pair of a node at a place of its list, behind which those come that it was found to be
+    /// the difference of.
     fn pair_or_merged(&self, node: u32, at: usize) -> Option<(u32, u32)> {
         let known = self.nodes.get(node as usize)?;
         match known.pairs.get(at) {
@@ -520,8 +530,8 @@ impl Adders {
         Ok(())
     }
 
-    /// Whether a node is the difference of literals below which there is more than below it: something cancels out in it, or it was
-    /// found equal to that.
+    /// Whether a node is the difference of literals below which there is more than below it:
+    /// something cancels out in it, or it was found equal to that.
     fn is_of_more(&self, node: u32) -> bool {
         match self.nodes.get(node as usize) {
             None => false,
@@ -540,7 +550,8 @@ impl Adders {
         Ok(out)
     }
 
-    /// Whether a node looks like the sum of three literals that have a carry: whether it may be one, and whether it does.
+    /// Whether a node looks like the sum of three literals that have a carry: whether it may be
+    /// one, and whether it does.
     fn looks_like_sum(&self, sweep: &Sweep, node: u32) -> (bool, bool) {
         let Some((x, y)) = self.pair(node, 0) else {
             return (false, false);
@@ -575,7 +586,8 @@ impl Adders {
         Ok(sums >= SOME)
     }
 
-    /// Whether it may be asked for carries of a node: where no adder of it is there by its gates, or none of three literals.
+    /// Whether it may be asked for carries of a node: where no adder of it is there by its gates,
+    /// or none of three literals.
     fn may_ask(&self, node: u32) -> bool {
         match self.nodes.get(node as usize) {
             None => false,
@@ -670,7 +682,8 @@ impl Adders {
     }
 
     #[tactic(auto, using(crate::proofs::KeepLemmas::keeps_itself, crate::proofs::KeepLemmas::keeps_along))]
-    /// Three literals with their sum and their carry, where that one was there. If it isn't there by its gates it may be asked about.
+    /// Three literals with their sum and their carry, where that one was there. If it isn't there
+    /// by its gates it may be asked about.
     fn tried(
         &mut self,
         reduction: &mut Reduction,
@@ -748,7 +761,8 @@ impl Adders {
     }
 
     #[tactic(auto, using(crate::proofs::KeepLemmas::keeps_itself, crate::proofs::KeepLemmas::keeps_along))]
-    /// Tries the carries of all these literals, of each of which a node is the sum: at first those that are there by their gates.
+    /// Tries the carries of all these literals, of each of which a node is the sum: at first those
+    /// that are there by their gates.
     fn try_all(
         &mut self,
         reduction: &mut Reduction,

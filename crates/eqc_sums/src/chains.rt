@@ -1,9 +1,10 @@
 //! Chains of carries in place of trees of prefixes, in a copy of a graph.
 //!
-//! Beside a tree of prefixes a column's carry is g or (p and c), where g says whether a span of columns makes a carry, p whether it
-//! passes one on, and c is the carry into the span. Where the span is made of two, g of them is g2 or (p2 and g1), and p is p2 and p1:
-//! then the carry is g2 or (p2 and (g1 or (p1 and c))). So each carry comes to one of single columns, as in a chain of adders. All is
-//! said of complements, as a graph has conjunctions: of "less", u and not (b and c).
+//! Beside a tree of prefixes a column's carry is g or (p and c), where g says whether a span of
+//! columns makes a carry, p whether it passes one on, and c is the carry into the span. Where the
+//! span is made of two, g of them is g2 or (p2 and g1), and p is p2 and p1: then the carry is g2 or
+//! (p2 and (g1 or (p1 and c))). So each carry comes to one of single columns, as in a chain of
+//! adders. All is said of complements, as a graph has conjunctions: of "less", u and not (b and c).
 ghost use Rattle.std.specs.Prelude.{◌≡◌, ℕ, ◌*◌, ◌/◌, ◌<◌, ◌&&◌, not, Bool, List, length, IfOk, IfSome};
 ghost use Rattle.eqc_graph.specs.declared.node.Node.{Node};
 ghost use Rattle.eqc_graph.specs.Graph.{literal_value, IsWithin, Extends};
@@ -22,7 +23,8 @@ const DEPTH: u32 = 7;
 /// So many spans are looked at for a carry, at most.
 const SPANS: u32 = 256;
 
-/// Two spans in place of one: of u less b, the upper one is `upper` less `shared`, and the lower one is not `made` less `passed`.
+/// Two spans in place of one: of u less b, the upper one is `upper` less `shared`, and the lower
+/// one is not `made` less `passed`.
 #[derive(Clone, Copy)]
 pub(crate) struct Split {
     pub(crate) upper: u32,
@@ -74,7 +76,8 @@ fn shared(one: (u32, u32), other: (u32, u32)) -> Option<(u32, u32, u32)>
     None
 }
 
-/// The split of a span, where its first literal is one without a conjunction that shares a literal with the second.
+/// The split of a span, where its first literal is one without a conjunction that shares a literal
+/// with the second.
 fn split_by(graph: &Graph, span: u32, passed: u32, upper: u32, without: u32) -> Option<Split>
     requires { IsBoth graph.now span upper without }
     ensures { IfSome result (λ s. IsSplit graph.now span passed s.upper s.shared s.made s.passed) }
@@ -104,7 +107,8 @@ fn split_of(graph: &Graph, span: u32, passed: u32) -> Option<Split>
 }
 
 #[tactic(auto, using(crate::proofs::ChainLemmas::prefix_made, crate::proofs::ChainLemmas::both_turned))]
-/// A conjunction as what a span that is made of two makes of a carry, where it is a literal without a conjunction of these.
+/// A conjunction as what a span that is made of two makes of a carry, where it is a literal without
+/// a conjunction of these.
 fn prefix_by(graph: &Graph, node: u32, span: u32, without: u32) -> Option<Prefix>
     requires { IsBoth graph.now (2 * node) span without }
     ensures { IfSome result (λ p. IsPrefix graph.now node p.span p.passed p.carry) }
@@ -169,7 +173,8 @@ fn made(
 }
 
 #[tactic(auto, using(crate::proofs::ChainLemmas::chain_value, crate::proofs::ChainLemmas::copies_stay, crate::proofs::GateLemmas::extends_both))]
-/// The literal of what a span makes of a carry, by spans of single columns, so often split. Where a literal has no copy there is none.
+/// The literal of what a span makes of a carry, by spans of single columns, so often split. Where a
+/// literal has no copy there is none.
 fn chain(
     graph: &Graph,
     table: &[Option<u32>],
@@ -386,10 +391,12 @@ fn entering(alloc: Global, graph: &Graph, literals: &[u32]) -> Result<Vec<bool>,
 }
 
 #[tactic(auto, using(eqc_sweep::proofs::CopyingLemmas::entering_begins, eqc_sweep::proofs::CopyingLemmas::entering_more))]
-/// Copies what these literals of a graph are made of into another graph, and answers the literals that its nodes have there, none for
-/// nodes that didn't enter. Each has its node's value. Carries of trees of prefixes come as chains of single columns, so that adders are
-/// found of them; the spans of the trees don't enter. Where it is to be shortened, an exclusive or in which something cancels out is made of
-/// what is left. Fails where memory is refused, or where the other graph has no room for more nodes.
+/// Copies what these literals of a graph are made of into another graph, and answers the literals
+/// that its nodes have there, none for nodes that didn't enter. Each has its node's value. Carries
+/// of trees of prefixes come as chains of single columns, so that adders are found of them; the
+/// spans of the trees don't enter. Where it is to be shortened, an exclusive or in which something
+/// cancels out is made of what is left. Fails where memory is refused, or where the other graph has
+/// no room for more nodes.
 pub fn copy_with_chains(
     alloc: Global,
     graph: &Graph,

@@ -1,4 +1,5 @@
-//! Which step comes next: the highest node for which a rule has one, rule by rule. Nothing is believed of it.
+//! Which step comes next: the highest node for which a rule has one, rule by rule. Nothing is
+//! believed of it.
 
 ghost use Rattle.std.specs.Prelude.{◌≡◌};
 
@@ -29,7 +30,8 @@ const KEPT: u8 = 32;
 /// How often a node is taken for a sum.
 const OFTEN: u8 = 8;
 
-/// How often it is taken for a product of one: where nodes were found equal, two products may lead to one another.
+/// How often it is taken for a product of one: where nodes were found equal, two products may lead
+/// to one another.
 const OFTEN_PRODUCT: u8 = 2;
 
 /// How many rules there are.
@@ -227,7 +229,8 @@ impl Choice {
         None
     }
 
-    /// Allows sums again, and their carries no more. Answers whether there were some that weren't allowed.
+    /// Allows sums again, and their carries no more. Answers whether there were some that weren't
+    /// allowed.
     fn turn(&mut self) -> bool {
         if self.turns >= TURNS {
             return false;

@@ -52,7 +52,8 @@ impl Chosen {
         last < MOST_CHOSEN && self.places[last] < len
     }
 
-    /// The next choice of as many: the last place that can move on does, and those behind it follow it closely.
+    /// The next choice of as many: the last place that can move on does, and those behind it follow
+    /// it closely.
     pub(crate) fn advance(&mut self, len: usize) {
         let mut moved = 0;
         for k in 0..MOST_CHOSEN {

@@ -1,4 +1,5 @@
-//! The literals of a column, and which of them are likely to be added up. Nothing is believed of it.
+//! The literals of a column, and which of them are likely to be added up. Nothing is believed of
+//! it.
 
 use std::alloc::{AllocError, Global};
 
@@ -9,7 +10,8 @@ pub(crate) struct Item {
     pub(crate) literal: u32,
 }
 
-/// Two or three literals of a column, by their numbers in ascending order, and how much speaks for adding them up.
+/// Two or three literals of a column, by their numbers in ascending order, and how much speaks for
+/// adding them up.
 #[derive(Clone, Copy)]
 pub(crate) struct Likely {
     pub(crate) x: u32,
@@ -36,7 +38,8 @@ const MOST_LIKELY: usize = 1_024;
 /// The literals that count as much.
 #[derive(Drop)]
 pub(crate) struct Column {
-    /// No three of them have their sum and their carry among the nodes. They are in the order of their numbers.
+    /// No three of them have their sum and their carry among the nodes. They are in the order of
+    /// their numbers.
     settled: Vec<Item>,
     /// These are still to be looked at.
     waiting: Vec<u32>,
@@ -110,7 +113,8 @@ impl Column {
         None
     }
 
-    /// Takes a settled literal out, and all that was likely of it. Answers the false one where there is none of this number.
+    /// Takes a settled literal out, and all that was likely of it. Answers the false one where
+    /// there is none of this number.
     pub(crate) fn take(&mut self, number: u32) -> u32 {
         let Some(place) = self.place(number) else {
             return 0;

@@ -1,8 +1,10 @@
-//! Adders forward: what one word comes to is added up, column by column, as the nodes below another word do it. Nothing is believed of it.
+//! Adders forward: what one word comes to is added up, column by column, as the nodes below another
+//! word do it. Nothing is believed of it.
 //!
-//! Where a netlist was mapped its sums are made of other gates, and a step from the word down finds no exclusive or. But most sums and carries
-//! are still there as functions: of three literals in a column, whose sum and carry look like nodes below the word, both are made, and are
-//! found equal to those nodes.
+//! Where a netlist was mapped its sums are made of other gates, and a step from the word down finds
+//! no exclusive or. But most sums and carries are still there as functions: of three literals in a
+//! column, whose sum and carry look like nodes below the word, both are made, and are found equal
+//! to those nodes.
 ghost use Rattle.eqc_sums.specs.Forms.{Keeps};
 
 use crate::adders::Adders;
@@ -18,7 +20,8 @@ use std::alloc::{AllocError, Global};
 /// The literal that is always true.
 const TRUE: u32 = 1;
 
-/// How much speaks for three literals where their carry is there, or their sum; for two where both are there, or one of them.
+/// How much speaks for three literals where their carry is there, or their sum; for two where both
+/// are there, or one of them.
 const CARRY: u32 = 12;
 
 const SUM: u32 = 10;
@@ -179,8 +182,8 @@ impl Below {
         }
     }
 
-    /// The part of some literals that is added up first, where their sum is there, and the carry of what is added up next: of the first part's
-    /// sum and the one or two others.
+    /// The part of some literals that is added up first, where their sum is there, and the carry of
+    /// what is added up next: of the first part's sum and the one or two others.
     fn first_part(&self, sweep: &Sweep, settled: &[Item], chosen: &Chosen) -> Option<Likely> {
         if !self.has(sweep.like_sum(&chosen.literals(settled))) {
             return None;
@@ -206,7 +209,8 @@ impl Below {
         None
     }
 
-    /// Literals that are added up in two steps, the first of which left nothing: so many, the last of which stands at this place.
+    /// Literals that are added up in two steps, the first of which left nothing: so many, the last
+    /// of which stands at this place.
     fn compound_with(
         &self,
         sweep: &Sweep,
@@ -254,8 +258,8 @@ impl Below {
 }
 
 impl Columns {
-    /// Columns without literals, for a word that stays and is the second one or not, with so many looks at sums and carries. Fails where
-    /// memory is refused.
+    /// Columns without literals, for a word that stays and is the second one or not, with so many
+    /// looks at sums and carries. Fails where memory is refused.
     pub(crate) fn new(
         alloc: Global,
         graph: &Graph,
@@ -304,7 +308,8 @@ impl Columns {
         Ok(())
     }
 
-    /// Puts a literal in the columns in which so many times it has a digit. Answers whether there is one in no lower column.
+    /// Puts a literal in the columns in which so many times it has a digit. Answers whether there
+    /// is one in no lower column.
     fn spread(&mut self, literal: u32, times: u128) -> Result<bool, AllocError> {
         for place in 0..128 {
             if times >> place & 1 == 0 {
@@ -343,8 +348,9 @@ impl Columns {
         are
     }
 
-    /// Takes in what a form comes to besides the word that stays. Answers whether that are inputs, conjunctions of them and literals of the word,
-    /// in no lower column than the word's and not too many in any.
+    /// Takes in what a form comes to besides the word that stays. Answers whether that are inputs,
+    /// conjunctions of them and literals of the word, in no lower column than the word's and not
+    /// too many in any.
     pub(crate) fn take(
         &mut self,
         form: &Form,
@@ -390,8 +396,9 @@ impl Columns {
         were_enough
     }
 
-    /// What speaks for adding up a literal and settled ones of a column, the sum or the carry of which is there. Where both are there, and
-    /// the literals are three, the numbers of the two settled ones are answered.
+    /// What speaks for adding up a literal and settled ones of a column, the sum or the carry of
+    /// which is there. Where both are there, and the literals are three, the numbers of the two
+    /// settled ones are answered.
     fn partners(
         &self,
         sweep: &Sweep,
@@ -444,7 +451,8 @@ impl Columns {
         }
     }
 
-    /// Settles a literal in a column, or takes out the two that have their sum and their carry with it.
+    /// Settles a literal in a column, or takes out the two that have their sum and their carry with
+    /// it.
     fn place(
         &mut self,
         sweep: &Sweep,
@@ -526,7 +534,8 @@ impl Columns {
         found
     }
 
-    /// What is added up next in a column in which nothing is sure: two are, or the first three where nothing speaks for others.
+    /// What is added up next in a column in which nothing is sure: two are, or the first three
+    /// where nothing speaks for others.
     fn likely(&mut self, sweep: &Sweep, at: usize) -> Option<Likely> {
         let settled = self.settled(at);
         let x = settled.get(0)?.number;
@@ -574,8 +583,8 @@ impl Columns {
     }
 
     #[tactic(auto, using(crate::proofs::KeepLemmas::keeps_itself, crate::proofs::KeepLemmas::keeps_along))]
-    /// Puts the literal of the word that stays in place of the one that is left in its column, where the two are found equal. Answers whether
-    /// the column comes to that literal.
+    /// Puts the literal of the word that stays in place of the one that is left in its column,
+    /// where the two are found equal. Answers whether the column comes to that literal.
     fn meet(
         &self,
         reduction: &mut Reduction,
@@ -596,8 +605,9 @@ impl Columns {
     }
 
     #[tactic(auto, using(crate::proofs::KeepLemmas::keeps_itself, crate::proofs::KeepLemmas::keeps_along))]
-    /// Adds up all columns, and puts the literals of the word that stays in place of what comes of it, from the lowest one on as long as these are
-    /// found equal, with so many conflicts for each, and as long as looks are left.
+    /// Adds up all columns, and puts the literals of the word that stays in place of what comes of
+    /// it, from the lowest one on as long as these are found equal, with so many conflicts for
+    /// each, and as long as looks are left.
     pub(crate) fn add_up(
         &mut self,
         reduction: &mut Reduction,

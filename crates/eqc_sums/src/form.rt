@@ -74,7 +74,8 @@ impl Form {
         }
     }
 
-    /// Whether it has neither a constant nor a coefficient, but for the constant node, which is false.
+    /// Whether it has neither a constant nor a coefficient, but for the constant node, which is
+    /// false.
     pub fn is_zero(&self) -> bool
         ensures { IsTrue result → (nodes : List Node) (a : ℕ → Bool) → IsGraph nodes → form_value nodes a self.now ≡ 0 }
     {

@@ -1,5 +1,6 @@
-//! Exclusive ors in which something cancels out, as what a square adds up twice: they are made of what is left before they are made as they
-//! are, so that these are found equal to those, below which there is less.
+//! Exclusive ors in which something cancels out, as what a square adds up twice: they are made of
+//! what is left before they are made as they are, so that these are found equal to those, below
+//! which there is less.
 ghost use Rattle.eqc_graph.specs.Graph.{Extends};
 
 use crate::support::{ROOM, Support, differing, of_one};
@@ -7,7 +8,8 @@ use eqc_graph::{Graph, Node, node_of};
 use eqc_sweep::Sweep;
 use std::alloc::{AllocError, Global};
 
-/// The nodes of which each node of a graph is the exclusive or, itself where these are many or it is none.
+/// The nodes of which each node of a graph is the exclusive or, itself where these are many or it
+/// is none.
 #[derive(Drop)]
 pub(crate) struct Leaves {
     nodes: Vec<Support>,

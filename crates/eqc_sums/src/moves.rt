@@ -28,7 +28,8 @@ pub(crate) enum Move {
 }
 
 #[tactic(auto, using(crate::proofs::KeepLemmas::keeps_itself))]
-/// Does a step. For a question there are so many conflicts, of which those are taken away that there were.
+/// Does a step. For a question there are so many conflicts, of which those are taken away that
+/// there were.
 pub(crate) fn apply(
     reduction: &mut Reduction,
     step: Move,

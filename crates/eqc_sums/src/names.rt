@@ -5,7 +5,8 @@ ghost use Rattle.std.specs.List.{All};
 use crate::words::MOST;
 use std::alloc::{AllocError, Global};
 
-/// The part of a name before its index, and the index: of names as `a[3]`, `a<3>`, `a(3)`, `a_3_` and `a3`.
+/// The part of a name before its index, and the index: of names as `a[3]`, `a<3>`, `a(3)`, `a_3_`
+/// and `a3`.
 fn indexed(name: &str) -> Option<(&str, u32)> {
     let open = match name.strip_suffix([']', '>', ')', '_']) {
         None => name,
@@ -76,9 +77,10 @@ fn goes_on(last: Option<(&str, u32)>, base: &str, index: u32) -> bool {
     }
 }
 
-/// The words among outputs of these names, each as the places of its names, that of the lowest bit first. Names belong to a word that
-/// are the same but for the number that they end with, in brackets or not, as `a[0]`, `a[1]` or `a0`, `a1`; it goes from one number to
-/// the next without a gap. Words of less than 2 and of more than 128 bits are left out. Fails where memory is refused.
+/// The words among outputs of these names, each as the places of its names, that of the lowest bit
+/// first. Names belong to a word that are the same but for the number that they end with, in
+/// brackets or not, as `a[0]`, `a[1]` or `a0`, `a1`; it goes from one number to the next without a
+/// gap. Words of less than 2 and of more than 128 bits are left out. Fails where memory is refused.
 pub fn words_of(alloc: Global, names: &[&str]) -> Result<Vec<Vec<usize>>, AllocError>
     ensures { IfOk result (λ ws. All (λ w. All (λ k. k < length names.now) w.items) ws.items) }
 {

@@ -1,4 +1,5 @@
-//! A node of a form, and the steps that are there for it by the graph and its adders alone. Nothing is believed of them.
+//! A node of a form, and the steps that are there for it by the graph and its adders alone. Nothing
+//! is believed of them.
 
 use crate::adders::{Adders, Block};
 use crate::form::Form;
@@ -125,7 +126,8 @@ impl<'a> Place<'a> {
         Some(block)
     }
 
-    /// The adder that fits best of those whose carry the node is, where this is half of the coefficient.
+    /// The adder that fits best of those whose carry the node is, where this is half of the
+    /// coefficient.
     pub(crate) fn best_carry(&self, half: u128) -> Option<Block> {
         let mut best = None;
         for block in self.adders.known(self.node)?.carries.as_slice() {
@@ -163,7 +165,8 @@ impl<'a> Place<'a> {
         Some(Move::Parity(x, y))
     }
 
-    /// The literals of a node that is a conjunction and neither a sum nor a carry nor small, and doesn't stand for one of inputs that stays.
+    /// The literals of a node that is a conjunction and neither a sum nor a carry nor small, and
+    /// doesn't stand for one of inputs that stays.
     fn conjunction_at(&self, node: u32) -> Option<(u32, u32)> {
         let adders = self.adders;
         if adders.is_small(node) || adders.is_left(node) {
@@ -192,7 +195,8 @@ impl<'a> Place<'a> {
         None
     }
 
-    /// Whether a polynomial may be put in place of a node: it has few ways, and there is none in its place yet.
+    /// Whether a polynomial may be put in place of a node: it has few ways, and there is none in
+    /// its place yet.
     fn can_expand(&self, node: u32) -> bool {
         let adders = self.adders;
         !adders.is_plain(node) && adders.is_gate(node) && adders.has_few_ways(node)
@@ -225,7 +229,8 @@ impl<'a> Place<'a> {
         None
     }
 
-    /// A product of a conjunction of complements. Unless it is forced, of two that are never both true.
+    /// A product of a conjunction of complements. Unless it is forced, of two that are never both
+    /// true.
     pub(crate) fn either_product(&self, sweep: &Sweep, is_forced: bool) -> Option<Move> {
         let (x, y) = self.conjunction()?;
         for (by, either) in [(x, y), (y, x)] {

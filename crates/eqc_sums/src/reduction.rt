@@ -112,7 +112,8 @@ impl Reduction {
     }
 
     #[tactic(auto, using(crate::proofs::KeepLemmas::keeps_extended, crate::proofs::KeepLemmas::keeps_itself, crate::proofs::KeepLemmas::keeps_grown))]
-    /// Adds an adder so many times: x + y + z - s - 2 c, where s is the sum of three literals and c the carry.
+    /// Adds an adder so many times: x + y + z - s - 2 c, where s is the sum of three literals and c
+    /// the carry.
     pub fn adder(&mut self, x: u32, y: u32, z: u32, factor: u128) -> Result<(), AllocError>
         ensures { Keeps self.old.sweep self.new.sweep self.old.form self.new.form }
     {
@@ -179,7 +180,8 @@ impl Reduction {
     }
 
     #[tactic(auto, using(crate::proofs::KeepLemmas::keeps_extended, crate::proofs::KeepLemmas::keeps_itself, crate::proofs::KeepLemmas::keeps_grown))]
-    /// Adds a literal that is split by another one, times a third one and so many times: by x y + by (not x) y - by y.
+    /// Adds a literal that is split by another one, times a third one and so many times: by x y +
+    /// by (not x) y - by y.
     pub fn split_product(&mut self, by: u32, x: u32, y: u32, factor: u128) -> Result<(), AllocError>
         ensures { Keeps self.old.sweep self.new.sweep self.old.form self.new.form }
     {
@@ -191,7 +193,8 @@ impl Reduction {
     }
 
     #[tactic(auto, using(crate::proofs::KeepLemmas::keeps_extended, crate::proofs::KeepLemmas::keeps_itself, crate::proofs::KeepLemmas::keeps_grown))]
-    /// Puts the polynomial of a literal, of literals that are at most so many gates below it, in place of it, so many times.
+    /// Puts the polynomial of a literal, of literals that are at most so many gates below it, in
+    /// place of it, so many times.
     pub fn expand(&mut self, literal: u32, depth: u32, factor: u128) -> Result<(), AllocError>
         ensures { Keeps self.old.sweep self.new.sweep self.old.form self.new.form }
     {
@@ -203,7 +206,8 @@ impl Reduction {
     }
 
     #[tactic(auto, using(crate::proofs::KeepLemmas::keeps_extended, crate::proofs::KeepLemmas::keeps_itself, crate::proofs::KeepLemmas::keeps_grown))]
-    /// Puts a literal times the polynomial of another one in place of their conjunction, so many times.
+    /// Puts a literal times the polynomial of another one in place of their conjunction, so many
+    /// times.
     pub fn expand_product(
         &mut self,
         by: u32,
@@ -221,7 +225,8 @@ impl Reduction {
     }
 
     #[tactic(auto, using(crate::proofs::KeepLemmas::keeps_extended, crate::proofs::KeepLemmas::keeps_itself))]
-    /// The sum and the carry of three literals, which are made in the graph if they aren't there. The form stays as it is.
+    /// The sum and the carry of three literals, which are made in the graph if they aren't there.
+    /// The form stays as it is.
     pub fn sum_and_carry(
         &mut self,
         x: u32,
@@ -244,8 +249,8 @@ impl Reduction {
         &self.sweep
     }
 
-    /// Puts y in place of x, so many times, where they are found equal with so many conflicts, of which those are taken away that
-    /// there were. Answers what was found.
+    /// Puts y in place of x, so many times, where they are found equal with so many conflicts, of
+    /// which those are taken away that there were. Answers what was found.
     pub fn unify(
         &mut self,
         x: u32,
@@ -266,8 +271,8 @@ impl Reduction {
         Ok(found)
     }
 
-    /// Begins anew with the form that is zero where two words are equal. Answers whether they are words of the graph, of as many
-    /// literals, from 1 to 128.
+    /// Begins anew with the form that is zero where two words are equal. Answers whether they are
+    /// words of the graph, of as many literals, from 1 to 128.
     pub fn begin(&mut self, ps: &[u32], qs: &[u32]) -> Result<bool, AllocError>
         ensures sweep { self.new.sweep ≡ self.old.sweep }
         ensures begun { IfOk result (λ is. IsTrue is → IsFormOf self.new.sweep self.new.form ps.now qs.now) }

@@ -23,7 +23,8 @@ pub struct Limits {
     pub question: u64,
     /// Conflicts of all questions about nodes of a form.
     pub conflicts: u64,
-    /// The work of all questions about nodes that are made, as for an `Effort`, and of the looks at nodes when steps are chosen.
+    /// The work of all questions about nodes that are made, as for an `Effort`, and of the looks at
+    /// nodes when steps are chosen.
     pub work: u64,
 }
 
@@ -72,7 +73,8 @@ const MORE: usize = 8;
 
 const FEWER: usize = 4;
 
-/// How many are few where a word is taken down to what it adds up: all that is above conjunctions of two inputs is taken for an adder.
+/// How many are few where a word is taken down to what it adds up: all that is above conjunctions
+/// of two inputs is taken for an adder.
 const LEAST: usize = 2;
 
 /// What a column is compared with may take this part of a pair's conflicts.
@@ -101,8 +103,8 @@ enum Way {
     AsSecond,
 }
 
-/// Whether some nodes of a graph look like adders. Nothing is promised of it: it is a look that takes little time. Fails where memory is
-/// refused.
+/// Whether some nodes of a graph look like adders. Nothing is promised of it: it is a look that
+/// takes little time. Fails where memory is refused.
 pub fn has_adders(alloc: Global, sweep: &Sweep) -> Result<bool, AllocError> {
     Adders::new(alloc, FEW, false, u32::MAX).has_some(sweep)
 }
@@ -162,8 +164,8 @@ fn lowest_of(word: &[u32]) -> u32 {
 }
 
 #[tactic(auto, using(crate::proofs::KeepLemmas::keeps_itself, crate::proofs::KeepLemmas::keeps_along, crate::proofs::KeepLemmas::keeps_same))]
-/// Adds steps to a form that leave a word as it is, which is taken away from the other one or not, and adds up what is left besides as the
-/// nodes below that word do it.
+/// Adds steps to a form that leave a word as it is, which is taken away from the other one or not,
+/// and adds up what is left besides as the nodes below that word do it.
 fn rebuild(
     alloc: Global,
     choice: &mut Choice,
@@ -234,7 +236,8 @@ impl Sums {
         self.reduction.sweep()
     }
 
-    /// Looks for adders among all nodes that there are, within these limits. Fails where memory is refused.
+    /// Looks for adders among all nodes that there are, within these limits. Fails where memory is
+    /// refused.
     pub fn find_adders(&mut self, limits: Limits) -> Result<(), AllocError>
         ensures { Extends self.old.reduction.sweep self.new.reduction.sweep }
     {
@@ -244,8 +247,9 @@ impl Sums {
     }
 
     #[tactic(auto, using(crate::proofs::GateLemmas::extends_both))]
-    /// Whether two words of literals, the lowest first, are shown equal, within these limits. Words of unequal length, of none or of more
-    /// than 128 literals aren't. Fails where memory is refused.
+    /// Whether two words of literals, the lowest first, are shown equal, within these limits. Words
+    /// of unequal length, of none or of more than 128 literals aren't. Fails where memory is
+    /// refused.
     pub fn show(&mut self, ps: &[u32], qs: &[u32], limits: Limits) -> Result<bool, AllocError>
         ensures extends { Extends self.old.reduction.sweep self.new.reduction.sweep }
         ensures equal { IfOk result (λ is. IsTrue is → AreEqualWords self.new.reduction.sweep ps.now qs.now) }
@@ -270,8 +274,9 @@ impl Sums {
         self.attempt(ps, qs, (FEWER, true), limits)
     }
 
-    /// Whether a word looks like a sum of several products, in a graph so large that attempts in vain take long: one product has as
-    /// many literals as its factors have together, of which some may be known to be equal.
+    /// Whether a word looks like a sum of several products, in a graph so large that attempts in
+    /// vain take long: one product has as many literals as its factors have together, of which some
+    /// may be known to be equal.
     fn is_of_several(&self, word: &[u32]) -> bool {
         let inputs = self.adders.inputs();
         self.reduction.sweep().graph().len() >= LARGE
@@ -279,7 +284,8 @@ impl Sums {
     }
 
     #[tactic(auto, using(crate::proofs::GateLemmas::extends_both))]
-    /// Whether two words are shown equal where it is asked for many carries, with a part of the looks that are left, which are left behind it too.
+    /// Whether two words are shown equal where it is asked for many carries, with a part of the
+    /// looks that are left, which are left behind it too.
     fn attempt_briefly(
         &mut self,
         ps: &[u32],
@@ -297,7 +303,8 @@ impl Sums {
         Ok(is_shown)
     }
 
-    /// Looks for adders anew where others are known than those for which so many inputs are few, and it is asked for many carries or not.
+    /// Looks for adders anew where others are known than those for which so many inputs are few,
+    /// and it is asked for many carries or not.
     fn take_kind(&mut self, kind: (usize, bool), limits: Limits) -> Result<(), AllocError>
         ensures { Extends self.old.reduction.sweep self.new.reduction.sweep }
     {
@@ -310,7 +317,8 @@ impl Sums {
     }
 
     #[tactic(auto, using(crate::proofs::GateLemmas::extends_both))]
-    /// Whether two words are shown equal where so many inputs are few, and it is asked for many carries or not.
+    /// Whether two words are shown equal where so many inputs are few, and it is asked for many
+    /// carries or not.
     fn attempt(
         &mut self,
         ps: &[u32],

@@ -25,7 +25,8 @@ pub(crate) fn are_within(graph: &Graph, literals: &[u32]) -> bool
     true
 }
 
-/// The literals of one word, each with the factor of its place, and those of another with the opposite of that.
+/// The literals of one word, each with the factor of its place, and those of another with the
+/// opposite of that.
 pub(crate) fn difference(alloc: Global, ps: &[u32], qs: &[u32]) -> Result<Vec<Term>, AllocError>
     requires some { 0 < length ps.now }
     requires few { length ps.now ≤ 128 }

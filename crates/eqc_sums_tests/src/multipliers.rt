@@ -60,8 +60,8 @@ fn carry_by(sweep: &mut Sweep, by: u32, one: u32, y: u32, z: u32) -> Result<u32,
     chosen(sweep, by, high, low)
 }
 
-/// The sum of five, and the carries of two adders, of the first three and of what they come to with the others, as a mapping leaves them: the
-/// sum of the first three isn't there.
+/// The sum of five, and the carries of two adders, of the first three and of what they come to with
+/// the others, as a mapping leaves them: the sum of the first three isn't there.
 fn mapped(sweep: &mut Sweep, five: [u32; 5]) -> Result<(u32, u32, u32), AllocError> {
     let [x, y, z, u, v] = five;
     let first = xor(sweep, y, u)?;
@@ -118,7 +118,8 @@ fn partial(
     Ok(all)
 }
 
-/// The bits of a factor's digit of two bits: whether it is odd, whether twice the other factor counts, and whether it is negative.
+/// The bits of a factor's digit of two bits: whether it is odd, whether twice the other factor
+/// counts, and whether it is negative.
 fn digit(
     sweep: &mut Sweep,
     low: u32,
@@ -134,7 +135,8 @@ fn digit(
     Ok((one, two, high))
 }
 
-/// Puts a row of recoded digits, and what makes it a complement of two, into columns; ones that the row goes on with into others.
+/// Puts a row of recoded digits, and what makes it a complement of two, into columns; ones that the
+/// row goes on with into others.
 fn put_recoded(
     sweep: &mut Sweep,
     a: &[u32],

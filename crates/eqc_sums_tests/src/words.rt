@@ -28,7 +28,8 @@ fn shown(sums: &mut Sums, p: &[u32], q: &[u32]) -> Result<(bool, bool), AllocErr
     Ok((sums.show(p, q, limits)?, p == q))
 }
 
-/// The same in a graph. It stands apart for its proof's sake: what is known of adders is let go in one exit.
+/// The same in a graph. It stands apart for its proof's sake: what is known of adders is let go in
+/// one exit.
 fn shown_in(alloc: Global, sweep: Sweep, p: &[u32], q: &[u32]) -> Result<(bool, bool), AllocError> {
     let mut sums = Sums::new(alloc, sweep);
     shown(&mut sums, p, q)
@@ -47,8 +48,8 @@ fn compared(
     shown_in(alloc, sweep, p.as_slice(), q.as_slice())
 }
 
-/// Products: their factors, their architectures, an adder with another carry, whether they are shown equal, and whether sweeping made
-/// them one.
+/// Products: their factors, their architectures, an adder with another carry, whether they are
+/// shown equal, and whether sweeping made them one.
 #[rattlefmt::skip]
 static PRODUCTS: &[(&str, Factors, Architecture, Architecture, usize, (bool, bool))] = &[
     ("4 bits, by columns", Factors::Two(4), Architecture::Array, Architecture::Columns, 0, (true, true)),
@@ -92,7 +93,8 @@ fn adders_are_seen(rt: HostRuntime) -> Result<(), AllocError> {
     Ok(())
 }
 
-/// What two spans of columns make of a carry, and pass on, together: the upper one, and the lower one.
+/// What two spans of columns make of a carry, and pass on, together: the upper one, and the lower
+/// one.
 fn joined(
     sweep: &mut Sweep,
     upper: (u32, u32),
@@ -125,7 +127,8 @@ fn carry(sweep: &mut Sweep, is_tree: bool) -> Result<u32, AllocError> {
     Ok(joined(sweep, fourth, lower)?.0)
 }
 
-/// The literal that a carry by a tree has in a copy with chains, and that of the same carry along a chain there.
+/// The literal that a carry by a tree has in a copy with chains, and that of the same carry along a
+/// chain there.
 fn chained(
     alloc: Global,
     plain: &mut Sweep,

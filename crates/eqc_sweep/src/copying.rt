@@ -25,7 +25,8 @@ fn mark(marks: &mut Vec<bool>, literal: u32) {
     }
 }
 
-/// Marks for the nodes of a graph: those of these literals, and what they are made of. Fails where memory is refused.
+/// Marks for the nodes of a graph: those of these literals, and what they are made of. Fails where
+/// memory is refused.
 pub fn below(alloc: Global, graph: &Graph, literals: &[u32]) -> Result<Vec<bool>, AllocError> {
     let mut marks = vec![in alloc; false; graph.len() as usize]?;
     for literal in literals {
@@ -54,7 +55,8 @@ fn entry(table: &[Option<u32>], k: u32) -> Option<u32>
     table.get(k as usize).copied().flatten()
 }
 
-/// The literal that a literal of a graph has in another one, where its node has one there. `table` has a place for each node.
+/// The literal that a literal of a graph has in another one, where its node has one there. `table`
+/// has a place for each node.
 #[tactic(auto, using(crate::proofs::CopyingLemmas::copied_literal))]
 pub fn copied(table: &[Option<u32>], literal: u32) -> Option<u32>
     ensures { (old new : List Node) → AreCopies old new table.now → IfSome result (IsCopyOf old new literal) }
@@ -63,7 +65,8 @@ pub fn copied(table: &[Option<u32>], literal: u32) -> Option<u32>
     Some(negated_if(copy, is_negated(literal)))
 }
 
-/// The literal of a node in another graph, where its operands have one there. Fails where memory is refused.
+/// The literal of a node in another graph, where its operands have one there. Fails where memory is
+/// refused.
 #[tactic(auto, using(crate::proofs::CopyingLemmas::copy_of_node))]
 fn copy_of(
     graph: &Graph,
@@ -101,8 +104,8 @@ fn copy_of(
 }
 
 #[tactic(auto, using(crate::proofs::CopyingLemmas::copies_set))]
-/// Enters a node into another graph, and puts its literal there into the table, where its operands have one. Fails where memory is
-/// refused.
+/// Enters a node into another graph, and puts its literal there into the table, where its operands
+/// have one. Fails where memory is refused.
 fn enter(
     graph: &Graph,
     k: u32,
@@ -124,7 +127,8 @@ fn enter(
 }
 
 #[tactic(auto, using(crate::proofs::CopyingLemmas::entering_begins, crate::proofs::CopyingLemmas::entering_more))]
-/// Enters all nodes that may, as long as there are some, and answers those that wait then. Fails where memory is refused.
+/// Enters all nodes that may, as long as there are some, and answers those that wait then. Fails
+/// where memory is refused.
 fn enter_ready<F: Fn(u32)>(
     graph: &Graph,
     ready: &mut Ready,
@@ -153,8 +157,8 @@ fn enter_ready<F: Fn(u32)>(
 }
 
 #[tactic(auto, using(crate::proofs::CopyingLemmas::entering_begins, crate::proofs::CopyingLemmas::entering_more))]
-/// Enters once more what waited and was asked about: it has the literals of the older nodes that it equals now. Fails where memory is
-/// refused.
+/// Enters once more what waited and was asked about: it has the literals of the older nodes that it
+/// equals now. Fails where memory is refused.
 fn enter_again(
     graph: &Graph,
     waiting: &[u32],
@@ -175,7 +179,8 @@ fn enter_again(
 }
 
 #[tactic(auto, using(crate::proofs::CopyingLemmas::copies_none))]
-/// A table for the literals that the nodes of a graph have in another one, without one. Fails where memory is refused.
+/// A table for the literals that the nodes of a graph have in another one, without one. Fails where
+/// memory is refused.
 pub fn no_copies(alloc: Global, graph: &Graph) -> Result<Vec<Option<u32>>, AllocError>
     ensures { IfOk result (λ table. (old new : List Node) → AreCopies old new table.items) }
 {
@@ -183,10 +188,12 @@ pub fn no_copies(alloc: Global, graph: &Graph) -> Result<Vec<Option<u32>>, Alloc
 }
 
 #[tactic(auto, using(crate::proofs::CopyingLemmas::entering_begins, crate::proofs::CopyingLemmas::entering_more))]
-/// Puts the literals that the marked nodes of a graph have in another one, which goes on from what it is, into a table that has some of
-/// them: inputs enter too, marked or not. `marks` says what is marked, as `below` does; `told` is told how many nodes have entered before
-/// the next one does. Nodes that may be equal to older ones are asked about side by side, as many at once as don't depend on one
-/// another. Fails where memory is refused, or where the other graph has no room for more nodes.
+/// Puts the literals that the marked nodes of a graph have in another one, which goes on from what
+/// it is, into a table that has some of them: inputs enter too, marked or not. `marks` says what is
+/// marked, as `below` does; `told` is told how many nodes have entered before the next one does.
+/// Nodes that may be equal to older ones are asked about side by side, as many at once as don't
+/// depend on one another. Fails where memory is refused, or where the other graph has no room for
+/// more nodes.
 pub fn copy<R: Threads + Sync, F: Fn(u32)>(
     rt: &R,
     graph: &Graph,

@@ -1,6 +1,7 @@
 //! What a sweep may cost.
 
-/// Of so many inputs two or more are true in each pattern in which one of 256 is. So others are simulated too.
+/// Of so many inputs two or more are true in each pattern in which one of 256 is. So others are
+/// simulated too.
 const MANY_INPUTS: usize = 512;
 
 /// How much a sweep does to find nodes equal.
@@ -10,8 +11,8 @@ pub struct Effort {
     pub(crate) asks: bool,
     /// The most conflicts that a question may have.
     pub(crate) conflicts: u64,
-    /// The work of all questions and simulations together: so much for each node, and for the graph as a whole, and never more than
-    /// so much.
+    /// The work of all questions and simulations together: so much for each node, and for the graph
+    /// as a whole, and never more than so much.
     pub(crate) each_node: u64,
     pub(crate) whole: u64,
     pub(crate) work: u64,
@@ -39,9 +40,9 @@ impl Effort {
         }
     }
 
-    /// New nodes are also asked against older ones that simulation doesn't tell from them, with at most so many conflicts a question,
-    /// and so much work in all, whatever the graph's size: about one for each literal visited and each simulated word, so that twenty
-    /// million take a second.
+    /// New nodes are also asked against older ones that simulation doesn't tell from them, with at
+    /// most so many conflicts a question, and so much work in all, whatever the graph's size: about
+    /// one for each literal visited and each simulated word, so that twenty million take a second.
     pub fn of(conflicts: u64, work: u64) -> Effort {
         Effort {
             simulates: true,
@@ -56,8 +57,9 @@ impl Effort {
         }
     }
 
-    /// The same where questions with many conflicts are asked in two ways, of which more and more that which finds more nodes equal for
-    /// its work: whether the nodes of a conflict are noted as they are met, or in the order in which they last were in one.
+    /// The same where questions with many conflicts are asked in two ways, of which more and more
+    /// that which finds more nodes equal for its work: whether the nodes of a conflict are noted as
+    /// they are met, or in the order in which they last were in one.
     pub fn in_two_ways(self) -> Effort {
         Effort {
             orders: true,
@@ -65,7 +67,8 @@ impl Effort {
         }
     }
 
-    /// The same over so many inputs: where they are many, more patterns are simulated in which few are true.
+    /// The same over so many inputs: where they are many, more patterns are simulated in which few
+    /// are true.
     pub fn over(self, inputs: usize) -> Effort {
         Effort {
             has_many_inputs: inputs >= MANY_INPUTS,
@@ -73,7 +76,8 @@ impl Effort {
         }
     }
 
-    /// The same by so many threads, one at least, where nodes are copied. What is found doesn't depend on how many there are.
+    /// The same by so many threads, one at least, where nodes are copied. What is found doesn't
+    /// depend on how many there are.
     pub fn by(self, workers: u32) -> Effort {
         Effort {
             workers: workers.max(1),
@@ -98,7 +102,8 @@ pub struct Tally {
     pub found: u64,
     /// Questions that were given up.
     pub open: u64,
-    /// Whether there were nodes about which nothing was asked, since all work that there might be was done.
+    /// Whether there were nodes about which nothing was asked, since all work that there might be
+    /// was done.
     pub is_cut: bool,
     /// The work that they and simulations took.
     pub work: u64,

@@ -48,10 +48,11 @@ pub(crate) struct Finder {
     search: Search,
     /// The inputs' nodes and variables.
     inputs: Vec<(u32, u32)>,
-    /// For each node how many questions were given up on a way below it: where nodes that are equal weren't found to be, those above them
-    /// are harder to find.
+    /// For each node how many questions were given up on a way below it: where nodes that are equal
+    /// weren't found to be, those above them are harder to find.
     doubts: Vec<u8>,
-    /// Whether new nodes wait until all that wait are asked about, those that do, and who asks then.
+    /// Whether new nodes wait until all that wait are asked about, those that do, and who asks
+    /// then.
     waits: bool,
     waiting: Vec<Waiting>,
     searches: Vec<Search>,
@@ -77,8 +78,9 @@ impl Drop for Finder {
     }
 }
 
-/// Asks whether two literals differ: either may be true where the other is false. The second question looks at the window of the first,
-/// and has what was learned there: both need the same gates.
+/// Asks whether two literals differ: either may be true where the other is false. The second
+/// question looks at the window of the first, and has what was learned there: both need the same
+/// gates.
 pub(crate) fn ask_both(
     search: &mut Search,
     graph: &Graph,
@@ -105,7 +107,8 @@ impl Finder {
         Finder::by(alloc, effort, Patterns::new(alloc, effort.has_many_inputs)?)
     }
 
-    /// One for another graph whose inputs are those of this one, in the same order: it simulates the same patterns, if this one does.
+    /// One for another graph whose inputs are those of this one, in the same order: it simulates
+    /// the same patterns, if this one does.
     pub(crate) fn again(&self, effort: Effort) -> Result<Finder, AllocError> {
         if !self.effort.simulates {
             return Finder::new(self.alloc, effort);
@@ -216,8 +219,8 @@ impl Finder {
         self.effort.asks = false;
     }
 
-    /// From now on new nodes are asked about with this effort, as if nothing was spent and nothing doubted so far, where they are
-    /// simulated. Before that more rows are.
+    /// From now on new nodes are asked about with this effort, as if nothing was spent and nothing
+    /// doubted so far, where they are simulated. Before that more rows are.
     pub(crate) fn ask_again(&mut self, graph: &Graph, effort: Effort) -> Result<(), AllocError> {
         if !self.effort.simulates {
             return Ok(());
@@ -337,8 +340,8 @@ impl Finder {
         Ok(())
     }
 
-    /// Whether two literals are equal, by simulation and for so many conflicts, of which those are taken away that
-    /// there were, or what the visited literals are worth.
+    /// Whether two literals are equal, by simulation and for so many conflicts, of which those are
+    /// taken away that there were, or what the visited literals are worth.
     pub(crate) fn compare(
         &mut self,
         graph: &Graph,

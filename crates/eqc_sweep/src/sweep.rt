@@ -41,7 +41,8 @@ impl Model for Sweep {
     ghost invariant = { λ s. AreKnown s.graph s.table.entries.items };
 }
 
-/// It stands here for the sake of proofs: where a sweep is let go there is a call in place of all its parts.
+/// It stands here for the sake of proofs: where a sweep is let go there is a call in place of all
+/// its parts.
 impl Drop for Sweep {
     fn drop(self) {
         let Sweep {
@@ -65,8 +66,8 @@ impl Sweep {
         })
     }
 
-    /// The constant alone, for what `copy` takes of a sweep: its inputs are to enter in the same order, and are simulated as they were
-    /// there. Fails where memory is refused.
+    /// The constant alone, for what `copy` takes of a sweep: its inputs are to enter in the same
+    /// order, and are simulated as they were there. Fails where memory is refused.
     pub fn again(&self, alloc: Global, effort: Effort) -> Result<Sweep, AllocError>
         ensures { IfOk result (λ s. s ≡ Node.Constant ∷ []) }
     {
@@ -89,7 +90,8 @@ impl Sweep {
         &self.graph
     }
 
-    /// From now on new nodes are not asked about any more: one that is equal to an older one may be made.
+    /// From now on new nodes are not asked about any more: one that is equal to an older one may be
+    /// made.
     pub fn ask_no_more(&mut self)
         ensures { self.new ≡ self.old }
     {
@@ -101,7 +103,8 @@ impl Sweep {
         self.table.alloc
     }
 
-    /// From now on what a new node may equal isn't asked at once: the node waits until it is asked about all that do, by `ask_waiting`.
+    /// From now on what a new node may equal isn't asked at once: the node waits until it is asked
+    /// about all that do, by `ask_waiting`.
     pub(crate) fn begin_waiting(&mut self)
         ensures { self.new ≡ self.old }
     {
@@ -120,8 +123,8 @@ impl Sweep {
         self.finder.is_waiting(node_of(literal))
     }
 
-    /// Asks about all nodes that wait. Where one is found equal to an older one, its literal is that of the older one, for who asks for
-    /// it again. Fails where memory is refused.
+    /// Asks about all nodes that wait. Where one is found equal to an older one, its literal is
+    /// that of the older one, for who asks for it again. Fails where memory is refused.
     pub(crate) fn ask_waiting<R: Threads + Sync>(&mut self, rt: &R) -> Result<(), AllocError>
         ensures { self.new ≡ self.old }
     {
@@ -154,9 +157,9 @@ impl Sweep {
         self.table.put(node, merge.older)
     }
 
-    /// From now on new nodes are asked about again, with this effort, as if nothing was spent so far, and alike about all. Before that
-    /// more assignments are simulated, such as make carries go far. A sweep that doesn't simulate asks nothing. Fails where memory is
-    /// refused.
+    /// From now on new nodes are asked about again, with this effort, as if nothing was spent so
+    /// far, and alike about all. Before that more assignments are simulated, such as make carries
+    /// go far. A sweep that doesn't simulate asks nothing. Fails where memory is refused.
     pub fn ask_again(&mut self, effort: Effort) -> Result<(), AllocError>
         ensures { self.new ≡ self.old }
     {
@@ -172,7 +175,8 @@ impl Sweep {
         if value { 1 } else { 0 }
     }
 
-    /// The literal of a variable, each time the same. Fails where memory is refused, or where there are 2^30 nodes.
+    /// The literal of a variable, each time the same. Fails where memory is refused, or where there
+    /// are 2^30 nodes.
     pub fn input(&mut self, variable: u32) -> Result<u32, AllocError>
         ensures extends { Extends self.old self.new }
         ensures value { IfOk result (λ l. HasValue self.new l (λ a. a variable)) }
@@ -180,7 +184,8 @@ impl Sweep {
         self.enter(Node::Input(variable))
     }
 
-    /// The conjunction of two literals. Fails where memory is refused, or where there are 2^30 nodes.
+    /// The conjunction of two literals. Fails where memory is refused, or where there are 2^30
+    /// nodes.
     pub fn and(&mut self, x: u32, y: u32) -> Result<u32, AllocError>
         requires x { IsWithin self.old x }
         requires y { IsWithin self.old y }
@@ -190,7 +195,8 @@ impl Sweep {
         self.gate(Node::And(x, y))
     }
 
-    /// Whether just one of two literals is true. Fails where memory is refused, or where there are 2^30 nodes.
+    /// Whether just one of two literals is true. Fails where memory is refused, or where there are
+    /// 2^30 nodes.
     pub fn xor(&mut self, x: u32, y: u32) -> Result<u32, AllocError>
         requires x { IsWithin self.old x }
         requires y { IsWithin self.old y }
@@ -218,7 +224,8 @@ impl Sweep {
     }
 
     #[tactic(auto, using(crate::proofs::SweepLemmas::value_known, crate::proofs::SweepLemmas::known_put, crate::proofs::SweepLemmas::extends_same))]
-    /// The literal of a node, by the table, or else of an older node that is found equal, or else of a new one.
+    /// The literal of a node, by the table, or else of an older node that is found equal, or else
+    /// of a new one.
     fn enter(&mut self, node: Node) -> Result<u32, AllocError>
         requires { IsBelow (length self.old) node }
         ensures extends { Extends self.old self.new }
@@ -251,9 +258,9 @@ impl Sweep {
         }
     }
 
-    /// Whether two literals are equal, by simulation and, unless there are none, by a search with so many conflicts. Those
-    /// that there were are taken away, and at least one for each thousand literals that were visited. Fails where memory
-    /// is refused.
+    /// Whether two literals are equal, by simulation and, unless there are none, by a search with
+    /// so many conflicts. Those that there were are taken away, and at least one for each thousand
+    /// literals that were visited. Fails where memory is refused.
     pub fn equal(&mut self, x: u32, y: u32, conflicts: &mut u64) -> Result<Comparison, AllocError>
         requires x { IsWithin self.old x }
         requires y { IsWithin self.old y }
@@ -263,9 +270,10 @@ impl Sweep {
         self.finder.compare(&self.graph, x, y, conflicts)
     }
 
-    /// Those of these pairs whose literals are found equal, in their order, with the conflicts that it took: each by a search of its own
-    /// with so many of them, and several at once by the threads of the effort. What is found doesn't depend on how many there are. Fails
-    /// where memory is refused.
+    /// Those of these pairs whose literals are found equal, in their order, with the conflicts that
+    /// it took: each by a search of its own with so many of them, and several at once by the
+    /// threads of the effort. What is found doesn't depend on how many there are. Fails where
+    /// memory is refused.
     pub fn equal_among<R: Threads + Sync>(
         &mut self,
         rt: &R,

@@ -1,5 +1,5 @@
-//! A member that is allowed few turns: its operations stop with the node limit though there is room, and those that are small
-//! don't.
+//! A member that is allowed few turns: its operations stop with the node limit though there is
+//! room, and those that are small don't.
 
 use crate::builders::{Builder, Wanted, lone};
 use crate::ends::same;
@@ -13,8 +13,8 @@ const PAIRS: u16 = 11;
 /// A variable of no pair.
 const OTHER: u16 = 2 * PAIRS;
 
-/// Makes the diagram that tells whether some pair is true in both its variables. In this order each pair doubles it, so the last
-/// operations have thousands of turns.
+/// Makes the diagram that tells whether some pair is true in both its variables. In this order each
+/// pair doubles it, so the last operations have thousands of turns.
 fn some_pair(rt: &(impl Abort + Wait), builder: &mut Builder) -> Result<(), Stop> {
     let mut some = builder.make(rt, Wanted::Constant(false))?;
     for variable in 0..PAIRS {

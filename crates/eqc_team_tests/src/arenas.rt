@@ -1,5 +1,5 @@
-//! Members of a team in a forest with little room: each operation has its result or the node limit, all results are one function,
-//! and nothing is left of them.
+//! Members of a team in a forest with little room: each operation has its result or the node limit,
+//! all results are one function, and nothing is left of them.
 ghost use Rattle.std.specs.Prelude.{◌≡◌};
 ghost use Rattle.eqc_apply.specs.Teaming.{forest_of};
 
@@ -42,7 +42,8 @@ fn a_member_without_work_makes_room(rt: HostRuntime) {
 /// How often a member built the parity, or another stop than the node limit.
 type Built = Result<u32, Stop>;
 
-/// Builds the parity in so many turns, and tells how often there was room. What is built is kept, or given back before the next turn.
+/// Builds the parity in so many turns, and tells how often there was room. What is built is kept,
+/// or given back before the next turn.
 fn turns(rt: &(impl Abort + Wait), builder: &mut Builder, count: u32, keeps: bool) -> Built
     ensures { forest_of builder.new.member ≡ forest_of builder.old.member }
 {
@@ -116,7 +117,8 @@ fn are_within(found: ((Built, Built), (Built, Built)), least: u32, most: u32) ->
         && is_within(d, least, most)
 }
 
-/// Four members with so much room for nodes, in so many turns: how often there was room for each, and one that took the others in.
+/// Four members with so much room for nodes, in so many turns: how often there was room for each,
+/// and one that took the others in.
 fn four_at_once<R: Threads + Sync + Abort + Wait + AllocGlobal>(
     rt: &R,
     nodes: u32,
@@ -137,7 +139,8 @@ fn four_at_once<R: Threads + Sync + Abort + Wait + AllocGlobal>(
     (a, found)
 }
 
-/// Four members with so much room for nodes: whether each builds so often, and one alone then in so many turns.
+/// Four members with so much room for nodes: whether each builds so often, and one alone then in so
+/// many turns.
 fn four_share<R: Threads + Sync + Abort + Wait + AllocGlobal>(
     rt: &R,
     nodes: u32,
@@ -151,8 +154,9 @@ fn four_share<R: Threads + Sync + Abort + Wait + AllocGlobal>(
     same(rt, one.close(rt), 0, nodes);
 }
 
-/// How much room for nodes there is, in how many turns at least and at most there is enough of it for a member beside
-/// others, and in how many for one alone. The parity has 15 nodes, and 22 with the literals.
+/// How much room for nodes there is, in how many turns at least and at most there is enough of it
+/// for a member beside others, and in how many for one alone. The parity has 15 nodes, and 22 with
+/// the literals.
 static ROOMS: &[(u32, u32, u32, u32)] = &[
     (2, 0, 0, 0),
     (3, 0, 0, 0),
@@ -181,8 +185,8 @@ fn are_one(rt: &impl Abort, builder: &Builder) -> bool {
     true
 }
 
-/// Four members with so much room for nodes, who keep what they build: whether all of it is one function, and nothing is left of it
-/// when it is given back.
+/// Four members with so much room for nodes, who keep what they build: whether all of it is one
+/// function, and nothing is left of it when it is given back.
 fn four_keep<R: Threads + Sync + Abort + Wait + AllocGlobal>(rt: &R, nodes: u32) {
     let (one, found) = four_at_once(rt, nodes, KEPT_TURNS, true);
     let most = if nodes < PARITY_NODES { 0 } else { KEPT_TURNS };

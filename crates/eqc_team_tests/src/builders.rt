@@ -1,5 +1,5 @@
-//! Members of a team, as the tests drive them: each keeps the references that it makes, by their places, and each call is
-//! made where it is allowed, and ends the test elsewhere.
+//! Members of a team, as the tests drive them: each keeps the references that it makes, by their
+//! places, and each call is made where it is allowed, and ends the test elsewhere.
 ghost use Rattle.std.specs.Prelude.{◌≡◌, ◌<◌, ◌≤◌, ◌+◌, ℕ, ◌++◌, ◌∷◌, [], vec_len, IfOk, OnErr};
 ghost use Rattle.std.specs.List.{All};
 ghost use Rattle.eqc_tree.specs.Holding.{Entry, Keeps, copies, weight};
@@ -162,7 +162,8 @@ impl Builder {
         self.references.reserve(1).is_ok()
     }
 
-    /// Makes a reference, and tells its place. Where memory is refused for its place nothing is made.
+    /// Makes a reference, and tells its place. Where memory is refused for its place nothing is
+    /// made.
     pub fn make(&mut self, rt: &(impl Abort + Wait), wanted: Wanted) -> Result<usize, Stop>
         ensures { forest_of self.new.member ≡ forest_of self.old.member }
     {
@@ -227,7 +228,8 @@ impl Builder {
             .same(at(rt, references, f), at(rt, references, g))
     }
 
-    /// Whether the operation of the references at two places has the function of a third, where a cell has its result.
+    /// Whether the operation of the references at two places has the function of a third, where a
+    /// cell has its result.
     pub fn cached_is(
         &mut self,
         rt: &impl Abort,
@@ -244,8 +246,8 @@ impl Builder {
         self.member.cached_is(op, f, g, at(rt, references, r))
     }
 
-    /// Takes in another member of the forest, which is not worker 0, with its references: they come behind these, from the
-    /// place on that is told.
+    /// Takes in another member of the forest, which is not worker 0, with its references: they come
+    /// behind these, from the place on that is told.
     pub fn absorb(&mut self, rt: &impl Abort, other: Builder) -> usize
         requires { forest_of other.member ≡ forest_of self.old.member }
         ensures { forest_of self.new.member ≡ forest_of self.old.member }
@@ -289,7 +291,8 @@ impl Builder {
         }
     }
 
-    /// Closes the forest with its references held: how many slots have a count above 0. Nobody can give them back after it.
+    /// Closes the forest with its references held: how many slots have a count above 0. Nobody can
+    /// give them back after it.
     pub fn close_holding(self, rt: &(impl Abort + Wait)) -> u32 {
         let Builder {
             member,

@@ -1,4 +1,5 @@
-//! Operations that members of a team share: what one offers another one does, and the result is the same.
+//! Operations that members of a team share: what one offers another one does, and the result is the
+//! same.
 ghost use Rattle.std.specs.Prelude.{◌≡◌};
 ghost use Rattle.eqc_apply.specs.Teaming.{forest_of};
 
@@ -38,7 +39,8 @@ fn mixed(rt: &(impl Abort + Wait), builder: &mut Builder, apart: u16) -> Result<
     Ok(all)
 }
 
-/// Whether the exclusive or of two such functions is what their disjunction has beyond their conjunction.
+/// Whether the exclusive or of two such functions is what their disjunction has beyond their
+/// conjunction.
 fn is_sum(rt: &(impl Abort + Wait), builder: &mut Builder, apart: u16) -> Result<bool, Stop>
     ensures { forest_of builder.new.member ≡ forest_of builder.old.member }
 {
@@ -77,7 +79,8 @@ fn serves(rt: &(impl Abort + Wait), builder: &mut Builder) -> bool
     false
 }
 
-/// Whether a member that has nothing to do does an operation of another one, whose results are right.
+/// Whether a member that has nothing to do does an operation of another one, whose results are
+/// right.
 fn is_shared<R: Threads + Sync + Abort + Wait + AllocGlobal>(rt: &R) -> bool {
     let (mut lead, mut waiting) = first(rt, VARIABLES, 5_000, 1, 2, 16);
     let mut other = next(rt, &lead, &mut waiting);

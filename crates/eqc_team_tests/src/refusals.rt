@@ -1,5 +1,5 @@
-//! Members of a team to whom memory is refused once: each call has its result or want of memory, and its result the next time, and
-//! nothing is left when the forest is closed.
+//! Members of a team to whom memory is refused once: each call has its result or want of memory,
+//! and its result the next time, and nothing is left when the forest is closed.
 ghost use Rattle.std.specs.Prelude.{◌≡◌, vec_len};
 ghost use Rattle.eqc_apply.specs.Teaming.{IsTeam, forest_of};
 
@@ -12,7 +12,8 @@ use std::process::Abort;
 use std::sync::Wait;
 use std::thread::{Threads, join_mut};
 
-/// The majority of the first three variables, in a second try where memory was refused in the first.
+/// The majority of the first three variables, in a second try where memory was refused in the
+/// first.
 fn majority_at_last(rt: &(impl Abort + Wait), builder: &mut Builder) -> Result<usize, Stop>
     ensures { forest_of builder.new.member ≡ forest_of builder.old.member }
 {
@@ -25,7 +26,8 @@ fn majority_at_last(rt: &(impl Abort + Wait), builder: &mut Builder) -> Result<u
     }
 }
 
-/// Whether there is memory for the place of one more reference, in a second try where it was refused in the first.
+/// Whether there is memory for the place of one more reference, in a second try where it was
+/// refused in the first.
 fn has_place_at_last(builder: &mut Builder) -> bool
     ensures { forest_of builder.new.member ≡ forest_of builder.old.member }
 {
@@ -63,7 +65,8 @@ fn two_build_one<R: Threads + Sync + Abort + Wait + AllocGlobal>(rt: &R, members
     same(rt, lead.close(rt), 0, "close");
 }
 
-/// Run with each request for memory refused in turn, by `rt try --test --fail-alloc N`, or by `scripts/dev/refuse_memory majorities`.
+/// Run with each request for memory refused in turn, by `rt try --test --fail-alloc N`, or by
+/// `scripts/dev/refuse_memory majorities`.
 #[test]
 fn two_members_build_one_majority_at_last(rt: HostRuntime) {
     match team(rt.alloc(), 3, 100, 64, 2, 0) {

@@ -1,5 +1,5 @@
-//! Members of a team, alone and in threads of their own: that what they built is taken in, and that the forest is closed
-//! then with nothing left.
+//! Members of a team, alone and in threads of their own: that what they built is taken in, and that
+//! the forest is closed then with nothing left.
 ghost use Rattle.std.specs.Prelude.{◌≡◌};
 ghost use Rattle.eqc_apply.specs.Teaming.{forest_of};
 
@@ -69,8 +69,8 @@ fn a_result_that_was_just_made_is_compared_in_a_cell(rt: HostRuntime) {
     same(&rt, lone.close(&rt), 0, "close");
 }
 
-/// The conjunction has its node by other operations too: by the exclusive or of a disjunction and an exclusive or, none of which asks for
-/// it.
+/// The conjunction has its node by other operations too: by the exclusive or of a disjunction and
+/// an exclusive or, none of which asks for it.
 #[test]
 fn a_result_of_another_member_is_compared_in_a_shared_cell(rt: HostRuntime) {
     let (mut lead, mut waiting) = first(&rt, 2, 8, 8, 2, 0);
@@ -93,7 +93,8 @@ fn a_result_of_another_member_is_compared_in_a_shared_cell(rt: HostRuntime) {
     same(&rt, lead.close(&rt), 0, "close");
 }
 
-/// The exclusive or of these variables, from the first one on, of which the result alone stays: at the place that is told.
+/// The exclusive or of these variables, from the first one on, of which the result alone stays: at
+/// the place that is told.
 pub fn parity(
     rt: &(impl Abort + Wait),
     builder: &mut Builder,
@@ -136,7 +137,8 @@ fn a_member_takes_in_what_another_one_built(rt: HostRuntime) {
     same(&rt, lead.close(&rt), 0, "close");
 }
 
-/// The majority of the first three variables, whose reference alone stays: at the place that is told.
+/// The majority of the first three variables, whose reference alone stays: at the place that is
+/// told.
 pub fn majority(rt: &(impl Abort + Wait), builder: &mut Builder) -> Result<usize, Stop>
     ensures { forest_of builder.new.member ≡ forest_of builder.old.member }
 {
@@ -168,8 +170,8 @@ fn two_members_build_one_majority(rt: HostRuntime) {
     same(&rt, lead.close(&rt), 0, "close");
 }
 
-/// What is made behind a majority, whether that is given back, and how many slots have a count above 0 when the forest is
-/// closed then.
+/// What is made behind a majority, whether that is given back, and how many slots have a count
+/// above 0 when the forest is closed then.
 #[rattlefmt::skip]
 static HELD: &[(&str, &[Wanted], bool, u32)] = &[
     ("nothing", &[], true, 0),

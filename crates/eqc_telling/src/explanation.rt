@@ -1,7 +1,9 @@
-//! The words for what is at fault where a run gives no verdict, one line each, and a second one where there is a hint.
+//! The words for what is at fault where a run gives no verdict, one line each, and a second one
+//! where there is a hint.
 //!
-//! A path of an instance is read from the main model down: `2:adder/1:cell` is, in the second `.subckt` of the main model, an
-//! `adder`, its first one, a `cell`. The words for where differences begin, and up to where equality is known, stand in `eqc_diagnosis`.
+//! A path of an instance is read from the main model down: `2:adder/1:cell` is, in the second
+//! `.subckt` of the main model, an `adder`, its first one, a `cell`. The words for where
+//! differences begin, and up to where equality is known, stand in `eqc_diagnosis`.
 
 use crate::warning::{first_source, second_source};
 use eqc_blif::{Finding as TextFinding, Library};
@@ -29,7 +31,8 @@ const MOST_NODES: u32 = 1_048_574;
 /// The fewest nodes with which equal signals are looked for inside the netlists.
 const SWEPT_NODES: u32 = 1_024;
 
-/// What is said where memory was refused for the places of differences, or for up to where equality is known.
+/// What is said where memory was refused for the places of differences, or for up to where equality
+/// is known.
 const UNLOCATED: &str = "the memory is exhausted, so not all places are told of";
 
 /// What is said where nothing was compared.
@@ -39,7 +42,8 @@ const VACUOUS: &str = "no assignment of the inputs meets the assumption, so noth
 const UNDRIVEN_HINT: &str =
     "'opt_clean -purge', 'write_blif -noalias' or scripts/prepare --unused leaves such a name out; what an output needs 'setundef -undriven -zero' before 'techmap' ties to 0";
 
-/// What the texts are called, and the lines on what is at fault in them. Where memory is refused lines are left out.
+/// What the texts are called, and the lines on what is at fault in them. Where memory is refused
+/// lines are left out.
 #[derive(Drop)]
 pub struct Explanation<'a> {
     alloc: Global,
@@ -50,7 +54,8 @@ pub struct Explanation<'a> {
     /// Empty where there is no assumption.
     assume: &'a str,
     options: Options,
-    /// Whether it is told why there is no verdict, and where differences begin, in full or in short.
+    /// Whether it is told why there is no verdict, and where differences begin, in full or in
+    /// short.
     explains: bool,
     locates: bool,
     briefs: bool,
@@ -96,7 +101,8 @@ impl<'a> Display for Signal<'a> {
     }
 }
 
-/// Where an instance stands: the number of its `.subckt`, counted from 1, the model around it, and its own model.
+/// Where an instance stands: the number of its `.subckt`, counted from 1, the model around it, and
+/// its own model.
 #[derive(Clone, Copy)]
 struct Place<'a> {
     library: &'a Library,
@@ -452,7 +458,8 @@ fn word_said(alloc: Global, word: &Word) -> Result<String, AllocError> {
     )
 }
 
-/// The names that are told of outputs that are in no word, and how many outputs more are left. None if there are neither.
+/// The names that are told of outputs that are in no word, and how many outputs more are left. None
+/// if there are neither.
 fn alone_said(alloc: Global, left: &Left) -> Result<Option<String>, AllocError> {
     let mut said = String::new(alloc);
     let mut cut = "";
@@ -476,7 +483,8 @@ fn alone_said(alloc: Global, left: &Left) -> Result<Option<String>, AllocError> 
 const SEEN: &str =
     "this output differs all the same, under these values; they may not be the least, and an output before it may differ too";
 
-/// An output that was seen to differ, as a report has it: a line for its name, one for each input, and one for each netlist.
+/// An output that was seen to differ, as a report has it: a line for its name, one for each input,
+/// and one for each netlist.
 fn seen_said(alloc: Global, seen: &Seen) -> Result<String, AllocError> {
     let Seen { inputs, difference } = seen;
     let mut said = format!(in alloc; "{SEEN}\ndiffers at {}", Whole(difference.name.as_bytes()))?;
@@ -512,7 +520,8 @@ fn designs_of<'a>(compared: &Compared<'a>) -> Designs<'a> {
     }
 }
 
-/// The names of the other outputs that may begin to differ at one of the places. Fails where memory is refused.
+/// The names of the other outputs that may begin to differ at one of the places. Fails where memory
+/// is refused.
 fn names_of<'a>(alloc: Global, located: &Located<'a>) -> Result<Vec<&'a [u8]>, AllocError> {
     let mut names = Vec::new(alloc);
     for other in located.others {
@@ -523,7 +532,8 @@ fn names_of<'a>(alloc: Global, located: &Located<'a>) -> Result<Vec<&'a [u8]>, A
     Ok(names)
 }
 
-/// No explanation yet, of what is asked for. On a terminal `--explain` tells in short where differences begin.
+/// No explanation yet, of what is asked for. On a terminal `--explain` tells in short where
+/// differences begin.
 pub fn explanation_for<'a>(
     alloc: Global,
     request: &Request<'a>,
@@ -659,7 +669,8 @@ impl<'a> Explanation<'a> {
         }
     }
 
-    /// Tells of a file that can't be opened or read, or of a report that can't be written, and the system's reason.
+    /// Tells of a file that can't be opened or read, or of a report that can't be written, and the
+    /// system's reason.
     fn tell_failed(&mut self, name: &str, error: &io::Error, fault: RunFault) {
         let said = format!(in self.alloc; "{error} ({})", fault.code());
         let _ = self.tell_of(name, said);

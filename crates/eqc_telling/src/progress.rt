@@ -1,7 +1,9 @@
-//! How far a run is, in one line on standard error that changes in place: the words of `--progress`.
+//! How far a run is, in one line on standard error that changes in place: the words of
+//! `--progress`.
 //!
-//! The run tells a `Watch` what it does, which takes a few steps in memory. A thread beside it shows that line, ten times a second
-//! and at first when a tenth of a second is over, so a short run shows nothing.
+//! The run tells a `Watch` what it does, which takes a few steps in memory. A thread beside it
+//! shows that line, ten times a second and at first when a tenth of a second is over, so a short
+//! run shows nothing.
 
 use crossbeam_utils::atomic::AtomicCell;
 use eqc_compare::{Gate, Progress, Stage};
@@ -145,8 +147,8 @@ impl Watch {
         })
     }
 
-    /// Shows the line in place of the one that stands, until the run is over. Where the clock can't be read it shows none, and a
-    /// write that fails changes nothing.
+    /// Shows the line in place of the one that stands, until the run is over. Where the clock can't
+    /// be read it shows none, and a write that fails changes nothing.
     pub fn show<R: Eprint + Clock + Wait>(&self, rt: &R) {
         let mut screen = self.screen.lock(rt);
         for _ in 0..u64::MAX {

@@ -73,7 +73,8 @@ fn warnings_text(
     Ok(text)
 }
 
-/// Writes the warnings. Where memory is refused or a write fails, they are lost, or a part of them is.
+/// Writes the warnings. Where memory is refused or a write fails, they are lost, or a part of them
+/// is.
 pub fn warn<E: Write>(alloc: Global, request: &Request<'_>, warnings: &Warnings, err: &mut E)
     ensures { IsToldOf (warnings_text request.now warnings.now) (E.contents err.old) (E.contents err.new) }
 {

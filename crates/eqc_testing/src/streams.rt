@@ -22,7 +22,8 @@ fn unsupported() -> io::Error {
     io::Error::from(ErrorKind::Unsupported)
 }
 
-/// Gives a text, in which `;` stands for LF, at most `step` bytes a read, and fails once, at one of its calls.
+/// Gives a text, in which `;` stands for LF, at most `step` bytes a read, and fails once, at one of
+/// its calls.
 #[derive(Drop)]
 pub struct Feed<'a> {
     text: &'a [u8],
@@ -142,7 +143,8 @@ impl Write for Drain {
 /// For how many turns `Terminal::wait` waits.
 const TURNS: u32 = 10_000_000;
 
-/// Keeps what is written to standard error, and has a clock on which the same time goes by from each reading to the next.
+/// Keeps what is written to standard error, and has a clock on which the same time goes by from
+/// each reading to the next.
 #[derive(Drop)]
 pub struct Terminal {
     text: Mutex<Vec<u8>>,
@@ -191,8 +193,8 @@ impl Terminal {
     }
 }
 
-/// Files by their names and a terminal, beside a runtime that has threads. A file whose name ends in `!` fails at its first read.
-/// Without a terminal the clock and standard error fail.
+/// Files by their names and a terminal, beside a runtime that has threads. A file whose name ends
+/// in `!` fails at its first read. Without a terminal the clock and standard error fail.
 #[derive(Clone, Copy)]
 pub struct Disk<'a, R> {
     pub files: &'a [(&'a str, &'a str)],

@@ -53,7 +53,8 @@ pub fn input_names(alloc: Global, count: u32) -> Result<String, AllocError> {
     Ok(names)
 }
 
-/// So many models, `m1` and those that follow it, each but the head of the last with two instances of the next one.
+/// So many models, `m1` and those that follow it, each but the head of the last with two instances
+/// of the next one.
 pub fn doubling(alloc: Global, models: u32) -> Result<String, AllocError> {
     let mut text = String::new(alloc);
     for k in 1..models {

@@ -1,4 +1,5 @@
-//! Texts and what they give. The answers come from an independent reader, or are those of the format's own examples.
+//! Texts and what they give. The answers come from an independent reader, or are those of the
+//! format's own examples.
 //!
 //! The texts of other programs were made by
 //!
@@ -7,7 +8,8 @@
 //! yosys -p "read_verilog mux.v; synth -top top; abc -lut 4; write_blif mux4.blif"
 //! ```
 //!
-//! where `mux.v` has a module `top` with one instance of `mux4`, whose body is `assign y = d[s]; assign n = ~s;`.
+//! where `mux.v` has a module `top` with one instance of `mux4`, whose body is
+//! `assign y = d[s]; assign n = ~s;`.
 ghost use Rattle.std.specs.Prelude.{◌<◌, length};
 
 use crate::ends::{check_rows, holds, same};
@@ -26,7 +28,8 @@ const LATCH: &str = ".model f;.inputs a \\;b;.outputs z;.names a z;.latch a z 0;
 const CARRIAGE: &str =
     ".model f\r;.inputs a \\ # two\r;b\r;.wire_load_slope 0.00\r;.outputs z\r;.names a b z\r;1 1 1\r;.end\r;.model g;.inputs a b;.outputs z;.names a b z;11 1;";
 
-/// A text for each rule of the format: its name, the text, and its library or the line and code of its first fault.
+/// A text for each rule of the format: its name, the text, and its library or the line and code of
+/// its first fault.
 #[rattlefmt::skip]
 static ROWS: &[Row<&str>] = &[
     ("comment and continuation", LATCH, "6 4"),
@@ -369,7 +372,8 @@ fn rows_match_values(rt: HostRuntime) {
     same(&rt, allowed, (true, true, false), "bytes");
 }
 
-/// The value of the one cover of a text under these values of its columns, and whether its rows end in `1`.
+/// The value of the one cover of a text under these values of its columns, and whether its rows end
+/// in `1`.
 fn cover_of(alloc: Global, text: &[u8], values: &[bool]) -> Option<(bool, bool, bool)> {
     let library = read(alloc, text).ok()?;
     if library.models() == 0 {

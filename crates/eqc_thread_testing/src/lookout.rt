@@ -1,5 +1,6 @@
-//! How many threads a process has while something is done. A `Threads` has no calls, so that none of them could count the threads that
-//! are started: the system is asked, again and again, in a thread beside.
+//! How many threads a process has while something is done. A `Threads` has no calls, so that none
+//! of them could count the threads that are started: the system is asked, again and again, in a
+//! thread beside.
 ghost use Rattle.std.specs.Thread.{IsSync};
 
 use std::os::unix::fs::MetadataExt;
@@ -8,7 +9,8 @@ use std::sync::atomic::{AtomicU64, Ordering};
 use std::thread;
 use std::thread::{Threads, join};
 
-/// Linux has a folder there for each thread of the process that looks, to which a link counts, and two more links to the whole.
+/// Linux has a folder there for each thread of the process that looks, to which a link counts, and
+/// two more links to the whole.
 const FOLDERS: &str = "/proc/self/task";
 
 const OTHER_LINKS: u64 = 2;
@@ -34,7 +36,8 @@ impl Census for HostRuntime {
     }
 }
 
-/// Waits until the process has one thread, or for long: one that was joined may be counted for a moment yet.
+/// Waits until the process has one thread, or for long: one that was joined may be counted for a
+/// moment yet.
 fn settle(rt: &impl Census) {
     for _ in 0..TURNS {
         if rt.threads() <= 1 {
@@ -73,7 +76,8 @@ impl Lookout {
         self.is_open.store(0, Ordering::SeqCst);
     }
 
-    /// Whether so many threads were seen at once, or more, with the one in which something is done: where it is to be one, no other.
+    /// Whether so many threads were seen at once, or more, with the one in which something is done:
+    /// where it is to be one, no other.
     pub fn has_seen(&self, threads: u32) -> bool {
         let most = self.most.load(Ordering::SeqCst);
         let wanted = u64::from(threads) + COUNTS;
@@ -104,8 +108,9 @@ impl Lookout {
         }
     }
 
-    /// Does something, and counts meanwhile in a thread of its own, once the process has no other threads any more: so it is called from
-    /// the only one. Where that thread can't be started nothing is counted. One lookout counts once.
+    /// Does something, and counts meanwhile in a thread of its own, once the process has no other
+    /// threads any more: so it is called from the only one. Where that thread can't be started
+    /// nothing is counted. One lookout counts once.
     pub fn beside<R: Census + Threads + Sync, X, W: FnOnce() -> X>(&self, rt: &R, work: W) -> X
         requires { W.pre work }
     {

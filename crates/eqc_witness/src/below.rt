@@ -15,8 +15,8 @@ const FEWEST: usize = 64;
 pub(crate) struct Below {
     alloc: Global,
     pub(crate) nodes: Vec<u32>,
-    /// Places in that row: each stands in the first slot that was free from its node's home on. What stands here only says where
-    /// a node is looked for.
+    /// Places in that row: each stands in the first slot that was free from its node's home on.
+    /// What stands here only says where a node is looked for.
     slots: Vec<u32>,
 }
 
@@ -102,8 +102,8 @@ impl Below {
         }
     }
 
-    /// The node of a literal and all that it is made of, in the order of the graph. It takes time in proportion to these, and a
-    /// little more to sort them. Fails where memory is refused.
+    /// The node of a literal and all that it is made of, in the order of the graph. It takes time
+    /// in proportion to these, and a little more to sort them. Fails where memory is refused.
     pub(crate) fn of(alloc: Global, graph: &Graph, literal: u32) -> Result<Below, AllocError> {
         let mut below = Below::new(alloc);
         below.enter(node_of(literal))?;

@@ -20,8 +20,8 @@ pub(crate) enum Completion {
     Unknown,
 }
 
-/// So many more literals may be visited for each conflict once an assignment was seen: to show that the first positions can't be
-/// false takes many visits, and who asks will be told of a difference.
+/// So many more literals may be visited for each conflict once an assignment was seen: to show that
+/// the first positions can't be false takes many visits, and who asks will be told of a difference.
 const ONCE_SEEN: u64 = 3_000;
 
 /// The conflicts of a question that begins where the positions that aren't given are false.
@@ -48,9 +48,9 @@ impl Means {
         self.budget.visits = self.budget.visits.saturating_add(more);
     }
 
-    /// Lets decisions on nodes begin with the values that these have where the positions begin with the first values and go on as
-    /// others, or as false where there are none: what makes the root true is often near these, and then found sooner. Fails where
-    /// memory is refused.
+    /// Lets decisions on nodes begin with the values that these have where the positions begin with
+    /// the first values and go on as others, or as false where there are none: what makes the root
+    /// true is often near these, and then found sooner. Fails where memory is refused.
     fn lean(&mut self, cone: &Cone, first: &[bool], others: &[bool]) -> Result<(), AllocError>
         ensures { self.new.search ≡ self.old.search }
     {
@@ -61,7 +61,8 @@ impl Means {
         Ok(())
     }
 
-    /// Asks whether literals of a cone's graph can be true together, with a few of the conflicts that are left.
+    /// Asks whether literals of a cone's graph can be true together, with a few of the conflicts
+    /// that are left.
     fn ask_shortly(&mut self, cone: &Cone, literals: &[u32]) -> Result<Answer, AllocError>
         requires { IsSound cone.now.graph self.old.search }
         ensures sound { IsSound cone.now.graph self.new.search }
@@ -98,7 +99,8 @@ fn model_values(
     Ok(values)
 }
 
-/// The assignment that the search found, if the root is true under it and it begins with the first values.
+/// The assignment that the search found, if the root is true under it and it begins with the first
+/// values.
 fn found_by(
     alloc: Global,
     cone: &Cone,
@@ -115,8 +117,8 @@ fn found_by(
     }
 }
 
-/// Values that begin with the first ones and make the root true, if some are found without a search. Fails where memory is
-/// refused.
+/// Values that begin with the first ones and make the root true, if some are found without a
+/// search. Fails where memory is refused.
 fn tried(
     alloc: Global,
     cone: &Cone,
@@ -136,8 +138,9 @@ fn tried(
     }
 }
 
-/// Asks whether literals of a cone's graph can be true together, by which the positions begin with the first values. Where there are
-/// some, it looks for a while near those that are false behind them, which are the least, and then near a guess.
+/// Asks whether literals of a cone's graph can be true together, by which the positions begin with
+/// the first values. Where there are some, it looks for a while near those that are false behind
+/// them, which are the least, and then near a guess.
 fn ask_near(
     cone: &Cone,
     literals: &[u32],
@@ -161,9 +164,9 @@ fn ask_near(
         .ask_again(&cone.graph, literals, &mut means.budget)
 }
 
-/// Finds values of the positions that begin with the first ones and make the root true, or that there are none. Tries the
-/// guess first, with the first values in place of its own, and some others where there are first values. Fails where memory is
-/// refused.
+/// Finds values of the positions that begin with the first ones and make the root true, or that
+/// there are none. Tries the guess first, with the first values in place of its own, and some
+/// others where there are first values. Fails where memory is refused.
 pub(crate) fn complete(
     alloc: Global,
     cone: &Cone,

@@ -18,8 +18,9 @@ pub(crate) struct Cone {
 }
 
 impl Cone {
-    /// What lies below a literal of a graph, over the positions of these variables: always some. It takes time in proportion to
-    /// that, and to its inputs times the positions. Fails where memory is refused, or where there are 2^30 nodes.
+    /// What lies below a literal of a graph, over the positions of these variables: always some. It
+    /// takes time in proportion to that, and to its inputs times the positions. Fails where memory
+    /// is refused, or where there are 2^30 nodes.
     pub(crate) fn of(
         alloc: Global,
         graph: &Graph,
@@ -42,7 +43,8 @@ impl Cone {
         }))
     }
 
-    /// Assumptions by which the root is true, and the first positions have these values. Fails where memory is refused.
+    /// Assumptions by which the root is true, and the first positions have these values. Fails
+    /// where memory is refused.
     pub(crate) fn assumptions(&self, alloc: Global, first: &[bool]) -> Result<Vec<u32>, AllocError>
         requires { length first.now ≤ self.now.positions }
         ensures { IfOk result (λ literals. AreAssumptions self.now.graph self.now.root first.now literals.items) }

@@ -20,8 +20,8 @@ fn position_of(variables: &[u16], variable: u32) -> usize
     variables.len()
 }
 
-/// The graph of the inputs of so many positions, in their order behind the constant. Fails where memory is refused, or where
-/// there are 2^30 nodes.
+/// The graph of the inputs of so many positions, in their order behind the constant. Fails where
+/// memory is refused, or where there are 2^30 nodes.
 pub(crate) fn inputs_alone(alloc: Global, positions: usize) -> Result<Graph, AllocError>
     ensures { IfOk result (λ graph. HasInputs graph positions) }
 {
@@ -45,8 +45,9 @@ pub(crate) fn copy_of(below: &Below, copies: &[u32], literal: u32) -> Option<u32
 }
 
 #[tactic(auto, using(crate::proofs::CopyLemmas::copy_and, crate::proofs::CopyLemmas::copy_xor))]
-/// Copies a node, where those that it is made of are copied: none where one of them isn't. A variable that has no position is
-/// false. Fails where memory is refused, or where there are 2^30 nodes.
+/// Copies a node, where those that it is made of are copied: none where one of them isn't. A
+/// variable that has no position is false. Fails where memory is refused, or where there are 2^30
+/// nodes.
 fn copied(
     copy: &mut Graph,
     graph: &Graph,
@@ -96,8 +97,8 @@ fn copied(
     }
 }
 
-/// Copies nodes of a graph in their order, and gives the copy of each: of all, since each comes behind those that it is made of.
-/// Fails where memory is refused, or where there are 2^30 nodes.
+/// Copies nodes of a graph in their order, and gives the copy of each: of all, since each comes
+/// behind those that it is made of. Fails where memory is refused, or where there are 2^30 nodes.
 pub(crate) fn copies(
     alloc: Global,
     copy: &mut Graph,

@@ -47,8 +47,8 @@ fn followed(alloc: Global, first: &[bool], others: &[bool]) -> Result<Vec<bool>,
 }
 
 impl Cone {
-    /// Whether the root is true under values of the positions. It takes time in proportion to the nodes. Fails where memory
-    /// is refused.
+    /// Whether the root is true under values of the positions. It takes time in proportion to the
+    /// nodes. Fails where memory is refused.
     fn is_true(&self, alloc: Global, values: &[bool]) -> Result<bool, AllocError>
         ensures { IfOk result (λ value. value ≡ holds_under self.now.graph self.now.root values.now) }
     {
@@ -61,8 +61,8 @@ impl Cone {
         Ok(value_among(&known, self.root))
     }
 
-    /// Values that begin with the first ones and go on as the others, if the root is true under them. Fails where memory is
-    /// refused.
+    /// Values that begin with the first ones and go on as the others, if the root is true under
+    /// them. Fails where memory is refused.
     pub(crate) fn confirmed(
         &self,
         alloc: Global,

@@ -15,7 +15,8 @@ use eqc_graph::Graph;
 use eqc_search::{Budget, Search};
 use std::alloc::{AllocError, Global};
 
-/// Literals that may be visited for each conflict, and conflicts' worth of them that there are without one.
+/// Literals that may be visited for each conflict, and conflicts' worth of them that there are
+/// without one.
 const VISITS: u64 = 1_000;
 
 const WITHOUT: u64 = 100;
@@ -26,15 +27,18 @@ const EACH: u64 = 16;
 /// How many times as many gates a window has each time that it is made larger.
 const GROWTH: u32 = 8;
 
-/// So many visits, or nodes below the literal, count as a conflict, where there were fewer conflicts.
+/// So many visits, or nodes below the literal, count as a conflict, where there were fewer
+/// conflicts.
 const WORTH: u64 = 2_000;
 
-/// The work that goes with a conflict, and what it takes to read a node, to copy it and to make room for it in a search.
+/// The work that goes with a conflict, and what it takes to read a node, to copy it and to make
+/// room for it in a search.
 const FREE: u64 = 8_000;
 
 const READ: u64 = 20;
 
-/// What may be spent where there may be so many conflicts. The work is only counted: what is begun isn't given up for it.
+/// What may be spent where there may be so many conflicts. The work is only counted: what is begun
+/// isn't given up for it.
 fn budget_of(conflicts: u64, cone: &Cone) -> Budget {
     let nodes = u64::from(cone.graph.len());
     let questions = (cone.positions as u64).saturating_add(1);
@@ -50,8 +54,8 @@ fn budget_of(conflicts: u64, cone: &Cone) -> Budget {
     }
 }
 
-/// The conflicts that are left of those given for a cone of so many nodes. Where much was visited for each, that counts as more
-/// of them, and so does reading the nodes.
+/// The conflicts that are left of those given for a cone of so many nodes. Where much was visited
+/// for each, that counts as more of them, and so does reading the nodes.
 fn conflicts_left(given: u64, means: &Means, nodes: u32) -> u64
     ensures { result ≤ given }
 {
@@ -83,8 +87,8 @@ fn above_all(variables: &[u16]) -> usize {
     above
 }
 
-/// The values of variables as values of their positions, false where none is told. The last that is told of a variable
-/// counts.
+/// The values of variables as values of their positions, false where none is told. The last that is
+/// told of a variable counts.
 fn values_told(
     alloc: Global,
     variables: &[u16],
@@ -118,8 +122,8 @@ fn lowered(alloc: Global, values: &[bool], position: usize) -> Result<Vec<bool>,
     Ok(first)
 }
 
-/// Other values in place of some under which a cone's root is true, where they are less and it is so under them too. Fails where
-/// memory is refused.
+/// Other values in place of some under which a cone's root is true, where they are less and it is
+/// so under them too. Fails where memory is refused.
 fn lesser(
     alloc: Global,
     cone: &Cone,
@@ -141,8 +145,8 @@ fn lesser(
     }
 }
 
-/// Values under which a cone's root is true, from some under which it is: less ones, where some are seen near these, or near the
-/// last of earlier ones. Fails where memory is refused.
+/// Values under which a cone's root is true, from some under which it is: less ones, where some are
+/// seen near these, or near the last of earlier ones. Fails where memory is refused.
 fn lesser_near(
     alloc: Global,
     cone: &Cone,
@@ -164,8 +168,9 @@ fn lesser_near(
     lesser(alloc, cone, values, &others)
 }
 
-/// Finds values of the positions that begin with the first ones and make the root true, or that there are none, as `complete` does. The
-/// guess is like other values, but for a run of false ones that begins with the last of the first ones. Fails where memory is refused.
+/// Finds values of the positions that begin with the first ones and make the root true, or that
+/// there are none, as `complete` does. The guess is like other values, but for a run of false ones
+/// that begins with the last of the first ones. Fails where memory is refused.
 fn complete_lower(
     alloc: Global,
     cone: &Cone,
@@ -184,8 +189,9 @@ fn complete_lower(
     complete(alloc, cone, first, &guess, means)
 }
 
-/// The least values under which a cone's root is true, from some under which it is: each that is true is tried at false, with
-/// those before it as they are, and first of all together with those behind it. Fails where memory is refused.
+/// The least values under which a cone's root is true, from some under which it is: each that is
+/// true is tried at false, with those before it as they are, and first of all together with those
+/// behind it. Fails where memory is refused.
 fn least_from(
     alloc: Global,
     cone: &Cone,
@@ -212,7 +218,8 @@ fn least_from(
     Ok(Witness::Least(values))
 }
 
-/// The least values under which a cone's root is true. Tries a guess first, and earlier values. Fails where memory is refused.
+/// The least values under which a cone's root is true. Tries a guess first, and earlier values.
+/// Fails where memory is refused.
 fn least_of(
     alloc: Global,
     cone: &Cone,
@@ -236,17 +243,20 @@ fn least_of(
     }
 }
 
-/// The least assignment under which a literal of a graph is true, in lexicographic order over the target's variables, false before
-/// true, where every other variable is false; or that there is none; or, where the conflicts are used up, an assignment
-/// under which it is true, if one was seen.
+/// The least assignment under which a literal of a graph is true, in lexicographic order over the
+/// target's variables, false before true, where every other variable is false; or that there is
+/// none; or, where the conflicts are used up, an assignment under which it is true, if one was
+/// seen.
 ///
-/// `target` is the literal, with the variable of each position. Of a literal that depends on others less may be found. `hints` are
-/// assignments that are tried first.
-/// `conflicts` are those that all questions together may have: without any, nothing is found. Those that there were are taken away,
-/// and at least one for each two thousand literals that were visited and nodes below the literal. `work` is what may be done beside
-/// these conflicts: without any, nothing is found. What was done is taken away, and may be more, since no search is given up for it.
-/// Its unit is a literal visited, and 8,000 go with each conflict; a node below the literal takes 20. Time and memory are in proportion
-/// to the conflicts, and to the nodes below the literal and the positions times the positions. Fails where memory is refused.
+/// `target` is the literal, with the variable of each position. Of a literal that depends on others
+/// less may be found. `hints` are assignments that are tried first. `conflicts` are those that all
+/// questions together may have: without any, nothing is found. Those that there were are taken
+/// away, and at least one for each two thousand literals that were visited and nodes below the
+/// literal. `work` is what may be done beside these conflicts: without any, nothing is found. What
+/// was done is taken away, and may be more, since no search is given up for it. Its unit is a
+/// literal visited, and 8,000 go with each conflict; a node below the literal takes 20. Time and
+/// memory are in proportion to the conflicts, and to the nodes below the literal and the positions
+/// times the positions. Fails where memory is refused.
 pub fn least_witness(
     alloc: Global,
     graph: &Graph,

@@ -3,8 +3,8 @@ use crate::simulation::Simulation;
 use eqc_graph::{Graph, Node};
 use std::alloc::{AllocError, Global};
 
-/// How many times 64 assignments are tried, in a graph of no more than so many words in all: fewer times in a larger one, but at least
-/// so often.
+/// How many times 64 assignments are tried, in a graph of no more than so many words in all: fewer
+/// times in a larger one, but at least so often.
 const ROUNDS: u64 = 32;
 
 const WORDS: u64 = 8_000_000;
@@ -31,9 +31,10 @@ fn input_word(simulation: &mut Simulation, round: u64) -> u64 {
     }
 }
 
-/// The place of the first of some literals of a graph that is seen true under pseudo-random values of its variables, the same in
-/// each run. Nothing is promised of it: others may be true before it, and it need not be seen. Takes time in proportion to the
-/// words that `words_shown` tells. Fails where memory is refused.
+/// The place of the first of some literals of a graph that is seen true under pseudo-random values
+/// of its variables, the same in each run. Nothing is promised of it: others may be true before it,
+/// and it need not be seen. Takes time in proportion to the words that `words_shown` tells. Fails
+/// where memory is refused.
 pub fn first_shown(
     alloc: Global,
     graph: &Graph,
@@ -54,7 +55,8 @@ pub fn first_shown(
     Ok((first < literals.len()).then_some(first))
 }
 
-/// The place of the first literal that is true in one of the words, of those before a place, or that place.
+/// The place of the first literal that is true in one of the words, of those before a place, or
+/// that place.
 fn first_true(simulation: &Simulation, literals: &[u32], before: usize) -> usize {
     for place in 0..before.min(literals.len()) {
         if simulation.word_of(literals[place]) != 0 {

@@ -1,4 +1,5 @@
-//! Simulation: a word for each node of a graph, with its value under 64 assignments. Nothing is promised of it.
+//! Simulation: a word for each node of a graph, with its value under 64 assignments. Nothing is
+//! promised of it.
 use eqc_graph::{Graph, Node, is_negated, node_of};
 use std::alloc::{AllocError, Global};
 

@@ -9,11 +9,13 @@ pub struct Target<'a> {
     pub variables: &'a [u16],
 }
 
-/// Assignments that are tried first. The less these are, the sooner the least one is found; nothing is promised of them.
+/// Assignments that are tried first. The less these are, the sooner the least one is found; nothing
+/// is promised of them.
 #[derive(Clone, Copy)]
 pub struct Hints<'a> {
     /// Variables and their values in an assignment. What isn't there is false.
     pub seen: &'a [(u32, bool)],
-    /// Further assignments, as values of the positions: those of literals like this one, the nearest last.
+    /// Further assignments, as values of the positions: those of literals like this one, the
+    /// nearest last.
     pub earlier: &'a [Vec<bool>],
 }

@@ -1,12 +1,13 @@
-//! Assignments that are tried before the search is asked: near those that are known, and by chance, 64 at once. What is found is
-//! a guess, which counts where the cone's root is evaluated under it.
+//! Assignments that are tried before the search is asked: near those that are known, and by chance,
+//! 64 at once. What is found is a guess, which counts where the cone's root is evaluated under it.
 ghost use Rattle.std.specs.Prelude.{◌≡◌, length, IfOk, IfSome};
 
 use crate::cone::Cone;
 use crate::simulation::{LANES, Simulation};
 use std::alloc::{AllocError, Global};
 
-/// How many of the earlier assignments are tried, the last ones: in one lane each, beside what is tried first.
+/// How many of the earlier assignments are tried, the last ones: in one lane each, beside what is
+/// tried first.
 pub const EARLIER: usize = LANES as usize - 1;
 
 /// How many times 64 assignments near a known one are tried.
@@ -15,7 +16,8 @@ const NEAR_ROUNDS: u32 = 200;
 /// How many times 64 assignments are tried by chance.
 const CHANCE_ROUNDS: u32 = 8;
 
-/// How many times positions in a row get one value, in each of the assignments that are like a known one otherwise.
+/// How many times positions in a row get one value, in each of the assignments that are like a
+/// known one otherwise.
 const RUNS: u32 = 2;
 
 /// So many positions such a row has at most.
@@ -82,7 +84,8 @@ impl Trials {
         }
     }
 
-    /// Lets all assignments begin with the first values and go on as others, and with false where there are none.
+    /// Lets all assignments begin with the first values and go on as others, and with false where
+    /// there are none.
     pub(crate) fn settle(&mut self, cone: &Cone, first: &[bool], others: &[bool]) {
         for position in 0..cone.positions {
             self.simulation.set(position.wrapping_add(1), 0);
@@ -143,7 +146,8 @@ impl Trials {
         Ok(Some(values))
     }
 
-    /// The least of these values and of the last 63 of earlier ones under which the root is true, or else these.
+    /// The least of these values and of the last 63 of earlier ones under which the root is true,
+    /// or else these.
     pub(crate) fn best_of(
         &mut self,
         alloc: Global,
@@ -183,8 +187,8 @@ impl Trials {
         }
     }
 
-    /// The least values that were found near these, at one position or two, and under which the root is true: values that are
-    /// known, where there are none less.
+    /// The least values that were found near these, at one position or two, and under which the
+    /// root is true: values that are known, where there are none less.
     pub(crate) fn near(
         &mut self,
         alloc: Global,
@@ -214,7 +218,8 @@ impl Trials {
         Ok(best)
     }
 
-    /// Lets the assignments be like one, but for runs that begin at a position and are false: of one position, two, four and so on.
+    /// Lets the assignments be like one, but for runs that begin at a position and are false: of
+    /// one position, two, four and so on.
     fn lower_each(&mut self, values: &[bool], from: usize) {
         self.begin(values);
         for position in from..values.len() {
@@ -227,9 +232,9 @@ impl Trials {
         }
     }
 
-    /// The least of the assignments in which one position, two, four and so on from a position on are false, and which are like these
-    /// values otherwise, under which the root is true; these values, where there is none. So what may be false is found for
-    /// many positions at once.
+    /// The least of the assignments in which one position, two, four and so on from a position on
+    /// are false, and which are like these values otherwise, under which the root is true; these
+    /// values, where there is none. So what may be false is found for many positions at once.
     pub(crate) fn lowered(
         &mut self,
         alloc: Global,
@@ -277,7 +282,8 @@ impl Trials {
         }
     }
 
-    /// Values that begin with the first ones and under which the root is true, if some are found by chance, and near a guess.
+    /// Values that begin with the first ones and under which the root is true, if some are found by
+    /// chance, and near a guess.
     pub(crate) fn beginning_with(
         &mut self,
         alloc: Global,

@@ -7,6 +7,7 @@ pub enum Witness {
     Least(Vec<bool>),
     /// There is none.
     Never,
-    /// It wasn't found out, with an assignment under which the literal is true, if one was seen: maybe not the least.
+    /// It wasn't found out, with an assignment under which the literal is true, if one was seen:
+    /// maybe not the least.
     Unknown(Option<Vec<bool>>),
 }

@@ -94,7 +94,8 @@ fn flag<'a>(alloc: Global, name: &'a str, help: &'a str) -> Arg<'a>
         .help(help)
 }
 
-/// A command, and the options with a number. They stand apart from the others for their proofs' sake: each adds an exit.
+/// A command, and the options with a number. They stand apart from the others for their proofs'
+/// sake: each adds an exit.
 fn with_numbers<'a>(alloc: Global, command: Command<'a>) -> Result<Command<'a>, AllocError>
     ensures { IfOk result (λ c. app_of c ≡ with_numbers (app_of command.entry)) }
 {
@@ -223,7 +224,8 @@ fn read_with<'a>(alloc: Global, answers: &'a str, words: &'a [String]) -> Result
     }
 }
 
-/// The text that only the help shows, or an empty one where memory was refused for it: the help is shown without.
+/// The text that only the help shows, or an empty one where memory was refused for it: the help is
+/// shown without.
 fn shown(text: &Result<String, AllocError>) -> &str {
     match text {
         Ok(text) => text.as_str(),
@@ -243,7 +245,8 @@ fn whole_help(alloc: Global, words: &[String]) -> Error
     }
 }
 
-/// Reads a command line, the program's name first. A bad one, a request for help or the version and want of memory are errors.
+/// Reads a command line, the program's name first. A bad one, a request for help or the version and
+/// want of memory are errors.
 pub fn read_words<'a>(alloc: Global, words: &'a [String]) -> Result<Request<'a>, Error>
     ensures taken { IfOk result (λ _. fault_of eqc_app (map string_bytes words.now) ≡ []) }
     ensures asked { IfOk result (IsAsked (rows_asked (map string_bytes words.now))) }

@@ -84,7 +84,8 @@ Statuses and reports:
   5                          a bad command line, or want of memory in reading it; told on standard error
   6  vacuous                 no assignment of the inputs meets the assumption, so nothing was compared";
 
-/// What `Stop::NodeLimit` tells of a comparison. The store's own word for it knows nothing of turns, which a comparison counts.
+/// What `Stop::NodeLimit` tells of a comparison. The store's own word for it knows nothing of
+/// turns, which a comparison counts.
 const NODE_LIMIT: &str = "the store of diagrams is full, or operations on them take too many turns";
 
 /// What `TextRule::TextTooLong` tells of a text. The rule's own words know of no option.

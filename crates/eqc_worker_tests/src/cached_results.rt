@@ -1,4 +1,5 @@
-//! The operation cache of the shared forest: what no clause says, as that hits come while others store.
+//! The operation cache of the shared forest: what no clause says, as that hits come while others
+//! store.
 ghost use Rattle.std.specs.Prelude.{◌≡◌};
 
 use crate::drivers::{Driver, stocked};

@@ -1,4 +1,5 @@
-//! Workers as the tests drive them: each takes a step where it is allowed, and none where it is not.
+//! Workers as the tests drive them: each takes a step where it is allowed, and none where it is
+//! not.
 ghost use Rattle.std.specs.Prelude.{◌≡◌, false, ◌+◌, ◌*◌, ◌<◌, ◌≤◌, ◌^◌, ◌∷◌, [], ◌++◌, ℕ, length, IsTrue, ◌↔◌, IfOk};
 ghost use Rattle.eqc_core.specs.Words.{times, announced_words};
 ghost use Rattle.eqc_core.specs.Moves.{IsReady, IsQuiet};
@@ -192,7 +193,8 @@ impl Driver {
         Some(false)
     }
 
-    /// Looks at a cell, announces its result and looks again, and gives the result that is confirmed then.
+    /// Looks at a cell, announces its result and looks again, and gives the result that is
+    /// confirmed then.
     #[tactic(auto, unfolding(eqc_core::specs::Words::result_of))]
     pub fn acquire(&mut self, cell: u32) -> Option<u32>
         ensures { self.new.worker.forest ≡ self.old.worker.forest }
@@ -364,7 +366,8 @@ impl Driver {
         self.position == 0 && is_quiet(self.phase) && self.worker.held() <= MOST_HELD
     }
 
-    /// Takes in another worker of the forest, which is not worker 0, with its references. Both are at rest.
+    /// Takes in another worker of the forest, which is not worker 0, with its references. Both are
+    /// at rest.
     pub fn absorb(&mut self, rt: &impl Abort, other: Driver)
         requires { other.worker.forest ≡ self.old.worker.forest }
         ensures { self.new.worker.forest ≡ self.old.worker.forest }
@@ -439,7 +442,8 @@ impl Driver {
         Some(won)
     }
 
-    /// Locks a stripe and unlocks it with the map that came: how many entries it has, and which slot a word has there.
+    /// Locks a stripe and unlocks it with the map that came: how many entries it has, and which
+    /// slot a word has there.
     pub fn visit(&mut self, rt: &impl Wait, stripe: u32, word: u64) -> Option<(usize, Option<u32>)>
         ensures { self.new.worker.forest ≡ self.old.worker.forest }
     {

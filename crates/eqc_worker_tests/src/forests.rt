@@ -13,7 +13,8 @@ const WORD: u64 = (1 << 60) + (2 << 40) + (2 << 20) + 2;
 /// The literal of variable 0, which is in stripe 1, as the word of a node.
 const LITERAL: u64 = 1;
 
-/// Whether a scan, in a forest of two workers, ends with the last of their eight words, and this many names come out.
+/// Whether a scan, in a forest of two workers, ends with the last of their eight words, and this
+/// many names come out.
 fn has_scanned(rt: &impl Abort, driver: &mut Driver, wanted: usize) -> bool
     ensures { driver.new.worker.forest ≡ driver.old.worker.forest }
 {

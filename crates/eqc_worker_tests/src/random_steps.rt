@@ -1,5 +1,6 @@
-//! Random steps of running workers: on 8 threads at once, after which the counts are what was given back leaves, and on one
-//! thread, where what is read afterwards is what the machine has after a replay of the same steps.
+//! Random steps of running workers: on 8 threads at once, after which the counts are what was given
+//! back leaves, and on one thread, where what is read afterwards is what the machine has after a
+//! replay of the same steps.
 ghost use Rattle.std.specs.Prelude.{◌≡◌, ◌<◌};
 
 use crate::drivers::{Driver, Scan, stocked};
@@ -363,8 +364,8 @@ fn take_in(
     a.absorb(rt, b);
 }
 
-/// Worker 0 and another one go on, and are compared with the machine; then worker 0 takes the other one in, and is
-/// compared alone.
+/// Worker 0 and another one go on, and are compared with the machine; then worker 0 takes the other
+/// one in, and is compared alone.
 fn compare_two(
     rt: &(impl Abort + AllocGlobal),
     core: &Core,
@@ -393,8 +394,8 @@ fn compare_two(
     same(rt, a.close(rt), 4, list);
 }
 
-/// Compares three workers after a list of steps with the machine after the same list, and two workers after one of the
-/// three took another one in.
+/// Compares three workers after a list of steps with the machine after the same list, and two
+/// workers after one of the three took another one in.
 fn compare_list(rt: &(impl Abort + AllocGlobal), list: u32) {
     let core = Core::stocked(rt.alloc(), 3, 4, 2).expect(rt, "there is memory");
     let mut a = stocked(rt, 3, 4, 2);

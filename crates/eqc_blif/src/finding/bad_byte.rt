@@ -1,4 +1,5 @@
-//! The first byte of a text that no text may have, as it is named of a refusal: with its physical line and column.
+//! The first byte of a text that no text may have, as it is named of a refusal: with its physical
+//! line and column.
 ghost use Rattle.std.specs.Prelude.{◌≡◌, ◌<◌, ◌^◌, length, true, Some};
 ghost use Rattle.std.specs.List.{list_any, position};
 ghost use Rattle.eqc_blif.specs.Lines.{numbered};
@@ -16,7 +17,8 @@ fn first_bad_byte(line: &[u8]) -> Option<usize>
     line.iter().position(|byte| is_bad_byte(*byte))
 }
 
-/// The first byte that is no part of a text, where there is one, with the number of its physical line and its column.
+/// The first byte that is no part of a text, where there is one, with the number of its physical
+/// line and its column.
 pub(crate) fn bad_byte(text: &[u8]) -> (u8, u32, usize)
     requires short { length text.now < 2 ^ 31 }
     requires some { list_any (λ line. list_any is_bad_byte line.1) (numbered 1 text.now) ≡ true }

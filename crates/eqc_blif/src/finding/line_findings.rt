@@ -44,7 +44,8 @@ fn no_pair(alloc: Global, line: &[u8]) -> Result<Name, AllocError>
     Name::new(alloc, first_no_pair(pairs))
 }
 
-/// A row of another shape than the columns of its cover want, and their number. Fails where memory is refused.
+/// A row of another shape than the columns of its cover want, and their number. Fails where memory
+/// is refused.
 fn row_shape(alloc: Global, reader: &Reader, line: &[u8]) -> Result<(Name, usize), AllocError>
     requires covered { is_in_cover reader.now.open_model ≡ true }
     requires row { kind_of_line line.now ≡ Row }
@@ -56,7 +57,8 @@ fn row_shape(alloc: Global, reader: &Reader, line: &[u8]) -> Result<(Name, usize
     Ok((row, columns))
 }
 
-/// The last character of a row, and another that the first row of its cover ends in. Fails where memory is refused.
+/// The last character of a row, and another that the first row of its cover ends in. Fails where
+/// memory is refused.
 fn row_ends(alloc: Global, reader: &Reader, line: &[u8]) -> Result<(u8, u8), AllocError>
     requires covered { is_in_cover reader.now.open_model ≡ true }
     requires row { kind_of_line line.now ≡ Row }
@@ -70,7 +72,8 @@ fn row_ends(alloc: Global, reader: &Reader, line: &[u8]) -> Result<(u8, u8), All
     Ok((row_output(row.as_slice()), row_output(first)))
 }
 
-/// The name that stands twice with the words of `.inputs` or `.outputs`. Fails where memory is refused.
+/// The name that stands twice with the words of `.inputs` or `.outputs`. Fails where memory is
+/// refused.
 fn name_twice(alloc: Global, reader: &mut Reader, line: &[u8]) -> Result<Finding, AllocError>
     requires opened { is_some reader.old.open_model ≡ true }
     requires twice { is_name_again reader.old (kind_of_line line.now) (arguments line.now) ≡ true }
@@ -85,8 +88,8 @@ fn name_twice(alloc: Global, reader: &mut Reader, line: &[u8]) -> Result<Finding
     Ok(Finding::OutputTwice(name))
 }
 
-/// What is named of the line of a refusal by a code, against what was read before it, or none for a latch. Fails where
-/// memory is refused.
+/// What is named of the line of a refusal by a code, against what was read before it, or none for a
+/// latch. Fails where memory is refused.
 pub(crate) fn line_finding(
     alloc: Global,
     reader: &mut Reader,

@@ -9,8 +9,8 @@ use crate::text::lines::Lines;
 use eqc_netlist::Refusal;
 use std::alloc::{AllocError, Global};
 
-/// Brings a new reader to what stands before the line that a text is refused for, and that line into `line`. Fails where
-/// memory is refused.
+/// Brings a new reader to what stands before the line that a text is refused for, and that line
+/// into `line`. Fails where memory is refused.
 pub(crate) fn go_to_line(
     alloc: Global,
     text: &[u8],

@@ -1,4 +1,5 @@
-//! Covers (`.names`): their columns, output and rows, the reading of a row, and the value of the output.
+//! Covers (`.names`): their columns, output and rows, the reading of a row, and the value of the
+//! output.
 ghost use Rattle.std.specs.Prelude.{◌≡◌, IfOk, length, MatchOption, [], nat_lt, IsTrue};
 ghost use Rattle.std.specs.List.{list_all};
 ghost use Rattle.eqc_netlist.specs.Cover.{cover_value};
@@ -13,13 +14,14 @@ use smallvec::SmallVec;
 use std::alloc::{AllocError, Global};
 use std::marker::Model;
 
-/// A cover (`.names`): the names of its columns, the name that it drives, and its rows without blanks.
+/// A cover (`.names`): the names of its columns, the name that it drives, and its rows without
+/// blanks.
 #[derive(Drop)]
 pub struct Cover {
     pub columns: Vec<Name>,
     pub output: Name,
-    /// The rows, one behind another. Each has a byte for each column, and one for the output. Most covers have few, so that
-    /// up to sixteen bytes need no allocation.
+    /// The rows, one behind another. Each has a byte for each column, and one for the output. Most
+    /// covers have few, so that up to sixteen bytes need no allocation.
     bytes: SmallVec<u8, 16>,
 }
 
@@ -47,8 +49,8 @@ fn is_output_value(byte: u8) -> bool
     byte == b'0' || byte == b'1'
 }
 
-/// Whether all bytes are values of columns. The loop has no exit on the way, which makes it faster than one that stops at
-/// a wrong byte.
+/// Whether all bytes are values of columns. The loop has no exit on the way, which makes it faster
+/// than one that stops at a wrong byte.
 fn are_column_values(bytes: &[u8]) -> bool
     ensures { result ≡ list_all is_column_value bytes.now }
 {
@@ -92,7 +94,8 @@ fn differs_from_first(rows: &Rows<'_>, row: &[u8]) -> bool
     }
 }
 
-/// The code of a row behind these rows of `columns` columns, where it has one: 7 for another shape, 8 for another output.
+/// The code of a row behind these rows of `columns` columns, where it has one: 7 for another shape,
+/// 8 for another output.
 fn row_code(columns: usize, rows: &Rows<'_>, row: &[u8]) -> Option<u8>
     ensures { result ≡ code_behind columns rows.now row.now }
 {
@@ -135,8 +138,8 @@ impl Cover {
         }))
     }
 
-    /// Takes a row, with its blanks, and answers its code where it has one: 7 for another shape, 8 for another output
-    /// than that of the first row.
+    /// Takes a row, with its blanks, and answers its code where it has one: 7 for another shape, 8
+    /// for another output than that of the first row.
     pub(crate) fn take_row(&mut self, line: &[u8]) -> Result<Option<u8>, AllocError>
         ensures { IfOk result (λ code. TakesRow self.old (without_blanks line.now) code self.new) }
     {

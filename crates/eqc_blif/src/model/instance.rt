@@ -1,4 +1,5 @@
-//! Instances of models (`.subckt`): the model that an instance names, and which formal is connected to which actual.
+//! Instances of models (`.subckt`): the model that an instance names, and which formal is connected
+//! to which actual.
 
 use eqc_netlist::Name;
 use std::marker::Model;

@@ -68,7 +68,8 @@ impl NameList {
         }
     }
 
-    /// Adds a name at the end, and answers whether it was new. One that is there already is not added.
+    /// Adds a name at the end, and answers whether it was new. One that is there already is not
+    /// added.
     fn add(&mut self, alloc: Global, name: Name) -> Result<bool, AllocError>
         ensures fresh { IfOk result (λ fresh. fresh ≡ not (is_named self.old name)) }
         ensures added { IfOk result (λ fresh. self.new ≡ (if fresh then self.old ++ name ∷ [] else self.old)) }
@@ -99,8 +100,8 @@ impl NameList {
         Ok(())
     }
 
-    /// Adds the words of a line, and answers whether no name then stands twice. Where one does, only those before it
-    /// were added.
+    /// Adds the words of a line, and answers whether no name then stands twice. Where one does,
+    /// only those before it were added.
     pub(crate) fn add_words(&mut self, alloc: Global, line: &[u8]) -> Result<bool, AllocError>
         ensures once { IfOk result (λ once. once ≡ not (has_twice (self.old ++ words line.now))) }
         ensures added { IfOk result (λ once. once ≡ true → self.new ≡ self.old ++ words line.now) }
@@ -118,8 +119,8 @@ impl NameList {
         Ok(true)
     }
 
-    /// The first of the words of a line that stands among the names or the words before it, where one does. The words
-    /// before it were added.
+    /// The first of the words of a line that stands among the names or the words before it, where
+    /// one does. The words before it were added.
     pub(crate) fn first_twice(&mut self, alloc: Global, line: &[u8]) -> Result<Name, AllocError>
         requires { has_twice (self.old ++ words line.now) ≡ true }
         ensures { IfOk result (λ name. StandsTwice (self.old ++ words line.now) name) }

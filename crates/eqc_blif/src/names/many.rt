@@ -35,8 +35,8 @@ impl ManyNames {
         Ok(ManyNames { names: set })
     }
 
-    /// Puts a name at the end, unless it is there, and answers whether it was not. Fails where memory is refused, and adds
-    /// nothing then.
+    /// Puts a name at the end, unless it is there, and answers whether it was not. Fails where
+    /// memory is refused, and adds nothing then.
     pub(crate) fn insert(&mut self, name: Name) -> Result<bool, AllocError>
         ensures fresh { IfOk result (λ fresh. fresh ≡ not (is_named self.old name)) }
         ensures added { IfOk result (λ fresh. self.new ≡ (if fresh then self.old ++ name ∷ [] else self.old)) }

@@ -1,4 +1,5 @@
-//! Which kind of statement a logical line is, by the command that it begins with, or a row of a cover.
+//! Which kind of statement a logical line is, by the command that it begins with, or a row of a
+//! cover.
 ghost use Rattle.std.specs.Prelude.{◌≡◌, true};
 ghost use Rattle.eqc_blif.specs.Kind.{kind_of, kind_of_line, skipped};
 ghost use Rattle.eqc_netlist.specs.Names.{is_named};
@@ -42,8 +43,8 @@ fn is_skipped(word: &[u8]) -> bool
         || word == b".cname".as_slice()
 }
 
-/// Whether a line is a row by its first byte, which is neither a blank nor the `.` of a command. Most lines of a large
-/// text are rows, and their words need not be cut then.
+/// Whether a line is a row by its first byte, which is neither a blank nor the `.` of a command.
+/// Most lines of a large text are rows, and their words need not be cut then.
 #[inline(always)]
 pub(crate) fn begins_row(line: &[u8]) -> bool
     ensures { result ≡ true → kind_of_line line.now ≡ Kind.Row }

@@ -1,4 +1,5 @@
-//! The model that is open while a text is read, and what each statement adds to it or is refused for.
+//! The model that is open while a text is read, and what each statement adds to it or is refused
+//! for.
 ghost use Rattle.std.specs.Prelude.{◌≡◌, ◌++◌, IfOk, OnOk, IsTrue, true, false, None};
 ghost use Rattle.eqc_blif.specs.Words.{words, without_blanks};
 ghost use Rattle.eqc_netlist.specs.Names.{has_twice};
@@ -109,7 +110,8 @@ impl OpenModel {
         Ok(None)
     }
 
-    /// `.subckt` with the words of `line`: code 9 where one behind the first is no pair, code 10 where there is no word.
+    /// `.subckt` with the words of `line`: code 9 where one behind the first is no pair, code 10
+    /// where there is no word.
     #[inline(never)]
     pub(crate) fn take_subckt(
         &mut self,
@@ -144,7 +146,8 @@ impl OpenModel {
     }
 
     /// A statement in the model. `rest` stands behind the command, `line` is all.
-    // Most lines of a large text are rows: a row is taken where the line is read, and all else by a call.
+    // Most lines of a large text are rows: a row is taken where the line is read, and all else by a
+    // call.
     #[inline(always)]
     pub(crate) fn take(
         &mut self,

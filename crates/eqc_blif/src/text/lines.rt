@@ -1,4 +1,5 @@
-//! How the bytes of a text become logical lines: comments and trailing blanks are cut off, and continued lines are joined.
+//! How the bytes of a text become logical lines: comments and trailing blanks are cut off, and
+//! continued lines are joined.
 ghost use Rattle.std.specs.Prelude.{◌≡◌, ◌+◌, ◌<◌, ◌≤◌, IsTrue, ℕ, [], ◌∷◌, length, IfOk, ◌==◌, ◌^◌};
 ghost use Rattle.std.specs.List.{list_all, position_or_len};
 ghost use Rattle.std.specs.Option.{option_map, option_copied};
@@ -29,7 +30,8 @@ fn find_far_line_end(bytes: &[u8]) -> usize
     }
 }
 
-/// Where the first LF stands, or the length. Most lines have no comment, so that the LF is looked for where it stands.
+/// Where the first LF stands, or the length. Most lines have no comment, so that the LF is looked
+/// for where it stands.
 fn find_line_end(bytes: &[u8]) -> usize
     ensures first { result ≡ position_or_len (λ byte. byte == 10) bytes.now }
     ensures within { result ≤ length bytes.now }
@@ -112,7 +114,8 @@ impl<'a> Lines<'a> {
         Some((number, trimmed(&text[..mark])))
     }
 
-    /// Appends to the empty `line` a logical line that begins with `first`, and the lines that it is continued in.
+    /// Appends to the empty `line` a logical line that begins with `first`, and the lines that it
+    /// is continued in.
     fn join(&mut self, line: &mut Vec<u8>, first: &[u8]) -> Result<(), AllocError>
         requires { line.old.items ≡ [] }
         ensures shorter { length self.new ≤ length self.old }
@@ -131,8 +134,8 @@ impl<'a> Lines<'a> {
         Ok(())
     }
 
-    /// The number of the next logical line, with its bytes where it stands in one physical line; one that was joined is
-    /// written into `joined`.
+    /// The number of the next logical line, with its bytes where it stands in one physical line;
+    /// one that was joined is written into `joined`.
     #[inline(always)]
     pub(crate) fn next_logical(
         &mut self,

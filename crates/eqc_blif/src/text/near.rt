@@ -26,8 +26,9 @@ fn find_far<const A: u8, const B: u8>(bytes: &[u8]) -> usize
     }
 }
 
-/// Where the first of two bytes stands, or the length. It is often near, so that the first bytes are looked at one by one.
-/// The two bytes are known where this is compiled, so that each pair has a search of its own.
+/// Where the first of two bytes stands, or the length. It is often near, so that the first bytes
+/// are looked at one by one. The two bytes are known where this is compiled, so that each pair has
+/// a search of its own.
 // It is inlined without being told so; with `inline(always)` reading takes 3 % longer.
 pub(crate) fn find_either<const A: u8, const B: u8>(bytes: &[u8]) -> usize
     ensures first { result ≡ position_or_len (is_either A B) bytes.now }

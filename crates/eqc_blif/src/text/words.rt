@@ -1,4 +1,5 @@
-//! How a logical line is cut into words: into names, into pairs of formal and actual, or into a row without blanks.
+//! How a logical line is cut into words: into names, into pairs of formal and actual, or into a row
+//! without blanks.
 ghost use Rattle.std.specs.Prelude.{◌≡◌, ◌<◌, ◌≤◌, ◌++◌, [], ◌∷◌, length, IfOk, IfSome, MatchOption, map, true, false, ◌+◌, is_ok, if◌then◌else◌};
 ghost use Rattle.std.specs.List.{position_or_len, list_all};
 ghost use Rattle.std.specs.Option.{option_map};
@@ -54,8 +55,9 @@ pub(crate) fn split_first(line: &[u8]) -> (&[u8], &[u8])
     }
 }
 
-/// Room for the words of a line: as many as it has bytes that are no blanks and stand behind a blank or at its start. The
-/// loop has no branch, which is faster than to take the words one by one.
+/// Room for the words of a line: as many as it has bytes that are no blanks and stand behind a
+/// blank or at its start. The loop has no branch, which is faster than to take the words one by
+/// one.
 pub(crate) fn room_for_words(line: &[u8]) -> usize {
     let mut words = 0usize;
     let mut behind_blank = true;
@@ -92,7 +94,8 @@ fn append_words(bytes: &mut SmallVec<u8, 16>, line: &[u8])
     }
 }
 
-/// Puts the bytes of a line that are no spaces and tabs behind others. Where memory is refused, none are put there.
+/// Puts the bytes of a line that are no spaces and tabs behind others. Where memory is refused,
+/// none are put there.
 #[inline(always)]
 pub(crate) fn append_without_blanks(
     bytes: &mut SmallVec<u8, 16>,
@@ -125,7 +128,8 @@ fn find_equals_sign(word: &[u8]) -> usize
     word.len()
 }
 
-/// The formal and the actual of a pair, split at its first `=`, or `None` where there is no `=` or one of them is empty.
+/// The formal and the actual of a pair, split at its first `=`, or `None` where there is no `=` or
+/// one of them is empty.
 fn split_pair(word: &[u8]) -> Option<(&[u8], &[u8])>
     ensures { IsPair word.now (option_map (λ p. (p.0.now, p.1.now)) result) }
 {
@@ -141,8 +145,8 @@ fn split_pair(word: &[u8]) -> Option<(&[u8], &[u8])>
     Some((formal, actual))
 }
 
-/// The words of a line as pairs of formal and actual, or `None` where one of them is no pair. Fails where memory is
-/// refused.
+/// The words of a line as pairs of formal and actual, or `None` where one of them is no pair. Fails
+/// where memory is refused.
 pub(crate) fn pairs_in(alloc: Global, line: &[u8]) -> Result<Option<Vec<(Name, Name)>>, AllocError>
     ensures { IfOk result (λ pairs. ArePairs (words line.now) (option_map (λ v. v.items) pairs)) }
 {

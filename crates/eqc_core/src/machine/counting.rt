@@ -1,4 +1,5 @@
-//! Steps on counts, announcements and cells that are allowed, and those by which numbers are given and taken in.
+//! Steps on counts, announcements and cells that are allowed, and those by which numbers are given
+//! and taken in.
 
 use crate::machine::Machine;
 use crate::worker::{self, Worker};

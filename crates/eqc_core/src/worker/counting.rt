@@ -1,4 +1,5 @@
-//! The steps on counts, announcements and cells: when a worker may take them, and what it knows then.
+//! The steps on counts, announcements and cells: when a worker may take them, and what it knows
+//! then.
 
 use crate::multiset;
 use crate::phase::Phase;

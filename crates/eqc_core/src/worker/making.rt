@@ -121,7 +121,8 @@ impl Worker {
         }
     }
 
-    // The node stands in the table in hand, for the draft, which is now held. Says which slot it is.
+    // The node stands in the table in hand, for the draft, which is now held. Says which slot it
+    // is.
     pub(crate) fn write(
         &mut self,
         alloc: Global,

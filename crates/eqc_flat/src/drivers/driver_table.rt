@@ -1,4 +1,5 @@
-//! How drivers are found: each input, cover and pair drives its signal, and each signal has to be driven exactly once.
+//! How drivers are found: each input, cover and pair drives its signal, and each signal has to be
+//! driven exactly once.
 ghost use Rattle.std.specs.Prelude.{◌≡◌, ℕ, ◌+◌, ◌<◌, ◌≤◌, ◌++◌, ◌∷◌, [], List, length, map, true, false, Some, None, is_some, is_none, position, slice_index_or, IfOk, IfErr, MatchOption};
 ghost use Rattle.std.specs.List.{flat_map, enumerate_from};
 ghost use Rattle.eqc_blif.specs.Netlist.{ModelOf};
@@ -30,8 +31,8 @@ pub(crate) enum Driven {
     Never,
 }
 
-/// The drivers of the flat signals while they are found: a slot for each signal, and the first that was driven twice. Once
-/// one is, the answer is known, and nothing more is put in.
+/// The drivers of the flat signals while they are found: a slot for each signal, and the first that
+/// was driven twice. Once one is, the answer is known, and nothing more is put in.
 #[derive(Drop)]
 pub(crate) struct DriverTable {
     slots: Vec<Option<StoredDriver>>,
@@ -58,7 +59,8 @@ fn covers(library: &Library, m: usize) -> &[Cover]
     }
 }
 
-/// The signals of these names, which occur in the model of instance `i`. Fails where memory is refused.
+/// The signals of these names, which occur in the model of instance `i`. Fails where memory is
+/// refused.
 pub(crate) fn signals_of(
     alloc: Global,
     hierarchy: &Hierarchy<'_, '_>,
@@ -152,7 +154,8 @@ impl DriverTable {
         }
     }
 
-    /// Lets the pairs of the instance at position `p` of instance `i` drive what they drive; its number is `child`.
+    /// Lets the pairs of the instance at position `p` of instance `i` drive what they drive; its
+    /// number is `child`.
     fn fill_pairs(
         &mut self,
         hierarchy: &Hierarchy<'_, '_>,
@@ -183,8 +186,8 @@ impl DriverTable {
         }
     }
 
-    /// Lets the pairs of all instances right below instance `i` drive what they drive; the first of these instances
-    /// has the number `first`.
+    /// Lets the pairs of all instances right below instance `i` drive what they drive; the first of
+    /// these instances has the number `first`.
     fn fill_below(&mut self, hierarchy: &Hierarchy<'_, '_>, i: usize, first: usize)
         requires size { length self.old.0 ≡ length (signals hierarchy.now.0 hierarchy.now.1) }
         requires instance { i < length (paths hierarchy.now.0 hierarchy.now.1) }
@@ -277,8 +280,8 @@ fn taken(
     Ok(Some(all))
 }
 
-/// The driver of each flat signal, over the columns of all covers by their numbers. Answers 26 where a signal is driven
-/// twice, 27 where one isn't driven, and 72 where memory is refused.
+/// The driver of each flat signal, over the columns of all covers by their numbers. Answers 26
+/// where a signal is driven twice, 27 where one isn't driven, and 72 where memory is refused.
 pub(crate) fn drivers_of(
     alloc: Global,
     hierarchy: &Hierarchy<'_, '_>,

@@ -42,8 +42,8 @@ fn push_rows<'a>(all: &mut Vec<Rows<'a>>, covers: &'a [Cover]) -> Result<(), All
 }
 
 impl<'a> RowTable<'a> {
-    /// The rows of a library's covers. Fails where memory is refused, and where there are more covers than memory has
-    /// room for.
+    /// The rows of a library's covers. Fails where memory is refused, and where there are more
+    /// covers than memory has room for.
     pub(crate) fn of(alloc: Global, library: &'a Library) -> Result<RowTable<'a>, AllocError>
         ensures { IfOk result (λ table. table ≡ library.now) }
     {

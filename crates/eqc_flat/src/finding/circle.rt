@@ -1,4 +1,5 @@
-//! Circles of signals, each of which depends on the next one, as they are told of a refused hierarchy.
+//! Circles of signals, each of which depends on the next one, as they are told of a refused
+//! hierarchy.
 ghost use Rattle.std.specs.Prelude.{◌≡◌};
 
 use crate::finding::hierarchical_name::HierarchicalName;

@@ -1,4 +1,5 @@
-//! The circle of signals that a hierarchy is refused for, and the names of the first of its signals.
+//! The circle of signals that a hierarchy is refused for, and the names of the first of its
+//! signals.
 ghost use Rattle.std.specs.Prelude.{◌≡◌, ℕ, ◌+◌, ◌-◌, ◌<◌, length, map, take, Some, slice_index_or, IfOk};
 ghost use Rattle.eqc_hierarchy.specs.Codes.{IsRefusedWith};
 ghost use Rattle.eqc_flat.specs.Flattened.{signal_at};
@@ -69,8 +70,8 @@ fn named_circle<'a>(
     Ok(Circle::new(names, members.len()))
 }
 
-/// A way into a circle of signals, in a hierarchy with these places of columns that is refused for one. Fails where memory
-/// is refused.
+/// A way into a circle of signals, in a hierarchy with these places of columns that is refused for
+/// one. Fails where memory is refused.
 fn trail_in(
     alloc: Global,
     library: &Library,
@@ -90,7 +91,8 @@ fn trail_in(
     trail_of(alloc, &drivers)
 }
 
-/// A circle of signals, in a hierarchy with these places of columns that is refused for one. Fails where memory is refused.
+/// A circle of signals, in a hierarchy with these places of columns that is refused for one. Fails
+/// where memory is refused.
 fn circle_in<'a>(
     alloc: Global,
     library: &Library,

@@ -15,8 +15,8 @@ use eqc_blif::Library;
 use eqc_hierarchy::{Calls, Naming};
 use std::alloc::{AllocError, Global};
 
-/// The hierarchy below model `top` of a library, which is neither recursive nor too large, over the names of its models. Fails
-/// where memory is refused.
+/// The hierarchy below model `top` of a library, which is neither recursive nor too large, over the
+/// names of its models. Fails where memory is refused.
 pub(crate) fn expanded_below<'n, 'a>(
     alloc: Global,
     library: &'a Library,
@@ -49,7 +49,8 @@ fn table_in(
     DriverTable::of(alloc, hierarchy, &rows)
 }
 
-/// A signal that is driven so, in a hierarchy that is refused for one. Fails where memory is refused.
+/// A signal that is driven so, in a hierarchy that is refused for one. Fails where memory is
+/// refused.
 fn driven_in(
     alloc: Global,
     library: &Library,
@@ -65,7 +66,8 @@ fn driven_in(
     Ok(table.first_driven(driven).unwrap())
 }
 
-/// The name of a signal that is driven so, in a hierarchy that is refused for one. Fails where memory is refused.
+/// The name of a signal that is driven so, in a hierarchy that is refused for one. Fails where
+/// memory is refused.
 fn driven_named<'a>(
     alloc: Global,
     library: &Library,
@@ -80,7 +82,8 @@ fn driven_named<'a>(
     hierarchy.name_of(alloc, signal)
 }
 
-/// The name of a signal that is driven so, below a model that is refused for one. Fails where memory is refused.
+/// The name of a signal that is driven so, below a model that is refused for one. Fails where
+/// memory is refused.
 pub(crate) fn driven_below(
     alloc: Global,
     library: &Library,

@@ -1,17 +1,19 @@
-//! Names of flat signals as a reader of the text finds them: the instances down to the signal's own, and its name there.
+//! Names of flat signals as a reader of the text finds them: the instances down to the signal's
+//! own, and its name there.
 ghost use Rattle.std.specs.Prelude.{◌≡◌};
 
 use std::marker::Model;
 
-/// An instance on the way down a hierarchy: its position among the instances of the model around it, counted from 0, and
-/// the number of its own model in the library.
+/// An instance on the way down a hierarchy: its position among the instances of the model around
+/// it, counted from 0, and the number of its own model in the library.
 #[derive(Clone, Copy, Debug, PartialEq, Eq)]
 pub struct Step {
     pub position: usize,
     pub model: usize,
 }
 
-/// How a flat signal is found in the text: the instance that it stands in, and its name in the model of that instance.
+/// How a flat signal is found in the text: the instance that it stands in, and its name in the
+/// model of that instance.
 #[derive(Drop)]
 pub struct HierarchicalName<'a> {
     steps: Vec<Step>,
@@ -35,8 +37,8 @@ impl<'a> HierarchicalName<'a> {
         HierarchicalName { steps, name }
     }
 
-    /// The instances from the signal's own up to the one in the main model, the innermost first. There are none for a
-    /// signal of the main model.
+    /// The instances from the signal's own up to the one in the main model, the innermost first.
+    /// There are none for a signal of the main model.
     pub fn steps(&self) -> &[Step]
         ensures { result.now ≡ self.now.0 }
     {

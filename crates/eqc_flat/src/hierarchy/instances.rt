@@ -1,4 +1,5 @@
-//! The instances below a main model in a row, each with its model, its parent and its first signal, up to a limit.
+//! The instances below a main model in a row, each with its model, its parent and its first signal,
+//! up to a limit.
 ghost use Rattle.std.specs.Prelude.{◌≡◌, ◌+◌, ◌<◌, ◌≤◌, ◌++◌, ◌∷◌, [], length, vec_len, true, false, IfOk, MatchOption};
 ghost use Rattle.eqc_hierarchy.specs.Hierarchy.{paths};
 ghost use Rattle.eqc_hierarchy.specs.Codes.{is_too_large};
@@ -10,8 +11,9 @@ use std::alloc::{AllocError, Global};
 /// How many flat signals and instances there may be together, where the main model is no instance.
 pub(crate) const LIMIT: usize = 1_048_576;
 
-/// The instances of a main model, numbered in the order in which they are found: the main model is the first, and
-/// those right below an instance come after those right below the instances before it.
+/// The instances of a main model, numbered in the order in which they are found: the main model is
+/// the first, and those right below an instance come after those right below the instances before
+/// it.
 #[derive(Drop)]
 pub(crate) struct Instances {
     /// The main model.
@@ -51,8 +53,8 @@ impl Instances {
         }))
     }
 
-    /// Puts in an instance of a model with so many names, at a place. Answers false, and changes nothing, where
-    /// there would be too many signals and instances. Fails where memory is refused.
+    /// Puts in an instance of a model with so many names, at a place. Answers false, and changes
+    /// nothing, where there would be too many signals and instances. Fails where memory is refused.
     fn push(&mut self, model: usize, names: usize, place: (u32, u32)) -> Result<bool, AllocError>
         requires few { self.old.signals + vec_len self.old.places ≤ 1048576 }
         ensures top { self.new.top ≡ self.old.top }
@@ -74,8 +76,8 @@ impl Instances {
         Ok(true)
     }
 
-    /// Puts in the instances right below instance `k`. Answers false where there would be too many signals and
-    /// instances. Fails where memory is refused.
+    /// Puts in the instances right below instance `k`. Answers false where there would be too many
+    /// signals and instances. Fails where memory is refused.
     fn open(&mut self, calls: &Calls<'_>, naming: &Naming<'_>, k: usize) -> Result<bool, AllocError>
         requires same { naming.now ≡ calls.now }
         requires growing { IsGrowing calls.now self.old.top }
@@ -97,8 +99,8 @@ impl Instances {
         Ok(true)
     }
 
-    /// All instances of a main model whose models never reach themselves, or none where there are too many signals
-    /// and instances. Fails where memory is refused.
+    /// All instances of a main model whose models never reach themselves, or none where there are
+    /// too many signals and instances. Fails where memory is refused.
     pub(crate) fn of(
         alloc: Global,
         calls: &Calls<'_>,

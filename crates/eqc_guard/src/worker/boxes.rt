@@ -12,7 +12,8 @@ impl Worker {
     ghost use Rattle.eqc_guard.specs.Telling.{Copies};
     ghost use Rattle.eqc_guard.specs.Sharing.{parcel_word, IsWhole, IsGenuine, MayPut, MayPutWord, Receives};
 
-    /// How many boxes all workers have together, 16 each: those of worker k are from number 16 k on.
+    /// How many boxes all workers have together, 16 each: those of worker k are from number 16 k
+    /// on.
     pub fn boxes(&self) -> u32
         ensures { result ≡ 16 * self.now.known.core.sizes.workers }
     {

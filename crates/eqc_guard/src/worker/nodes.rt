@@ -1,5 +1,5 @@
-//! The steps on slots and nodes: a slot is claimed and given up, its node is written and read, and a
-//! node that only its table owns is taken back.
+//! The steps on slots and nodes: a slot is claimed and given up, its node is written and read, and
+//! a node that only its table owns is taken back.
 use crate::names;
 use crate::reference::Ref;
 use crate::rule::{Claim, ReadNode, Reclaim, Spot, Unclaim, WriteNode};
@@ -120,8 +120,8 @@ impl Worker {
         self.draft = None;
     }
 
-    /// Writes a node into the draft, whose table has it then. The worker gives its references of the
-    /// children to the node and has one of the node.
+    /// Writes a node into the draft, whose table has it then. The worker gives its references of
+    /// the children to the node and has one of the node.
     ///
     /// No scan is under way, the worker has a draft and the stripe of the node's word in hand, in
     /// which the word is not yet, and at most 2^39 names are held. The children differ, and their
@@ -160,7 +160,8 @@ impl Worker {
 
     /// Tries to take a node back that is in the stripe in hand, and gives its children, of which
     /// the worker has a reference each then. It is won where the table was the node's only owner:
-    /// its count was 1, and is 0 now. The caller takes the entry out of the map that it has in hand.
+    /// its count was 1, and is 0 now. The caller takes the entry out of the map that it has in
+    /// hand.
     ///
     /// There is none where the node has other owners. Then nothing has changed. No scan is under
     /// way, the word with the slot is an entry of the table, and at most 2^39 names are held.
@@ -175,8 +176,8 @@ impl Worker {
     {
         // What the worker knows is in order, so the slot of an entry is there.
         let _number = self.number;
-        // Most nodes that are tried have other owners. A load comes first, as in `claim`: it does not
-        // take the cache line from others.
+        // Most nodes that are tried have other owners. A load comes first, as in `claim`: it does
+        // not take the cache line from others.
         if self.load_count(x) != 1 {
             return None;
         }

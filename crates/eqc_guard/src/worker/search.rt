@@ -3,8 +3,8 @@
 use crate::worker::Worker;
 use eqc_core::Sizes;
 
-// The slots are shared out among the workers by so many in a row: a worker that searches in its own takes no cache line
-// from others, and the names that are in use have small numbers.
+// The slots are shared out among the workers by so many in a row: a worker that searches in its own
+// takes no cache line from others, and the names that are in use have small numbers.
 const ROW: u32 = 1024;
 
 // The first slot from a place on that is shared out to a worker.

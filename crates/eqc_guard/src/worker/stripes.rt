@@ -72,8 +72,8 @@ impl Worker {
         unreachable!()
     }
 
-    /// About how many slots are taken: as many as there are where each stripe has so many nodes as the one that this worker
-    /// put back last. Nothing that is promised depends on it.
+    /// About how many slots are taken: as many as there are where each stripe has so many nodes as
+    /// the one that this worker put back last. Nothing that is promised depends on it.
     pub fn slots_about_taken(&self) -> usize {
         self.nodes_seen.saturating_mul(16)
     }

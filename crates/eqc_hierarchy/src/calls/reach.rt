@@ -8,7 +8,8 @@ ghost use Rattle.eqc_hierarchy.specs.Reaching.{IsReaching};
 use crate::calls::Calls;
 use std::alloc::{AllocError, Global};
 
-/// Lists the models that model `top` reaches, of which none is seen yet. Fails where memory is refused.
+/// Lists the models that model `top` reaches, of which none is seen yet. Fails where memory is
+/// refused.
 fn list_reached(
     calls: &Calls<'_>,
     top: usize,
@@ -37,8 +38,9 @@ fn list_reached(
     Ok(())
 }
 
-/// The numbers of the models that model `top` reaches by instances, each once and `top` first. The number of models
-/// stands for one that isn't there; `top` is at most that. Fails where memory is refused.
+/// The numbers of the models that model `top` reaches by instances, each once and `top` first. The
+/// number of models stands for one that isn't there; `top` is at most that. Fails where memory is
+/// refused.
 pub(crate) fn reached_models(
     alloc: Global,
     calls: &Calls<'_>,

@@ -1,4 +1,5 @@
-//! The chain of models that a recursive hierarchy is refused for: it comes back to one that stands in it before.
+//! The chain of models that a recursive hierarchy is refused for: it comes back to one that stands
+//! in it before.
 ghost use Rattle.std.specs.Prelude.{◌<◌, length, IfOk};
 ghost use Rattle.eqc_hierarchy.specs.Codes.{IsRefusedWith};
 ghost use Rattle.eqc_hierarchy.specs.Hierarchy.{callees};
@@ -9,8 +10,9 @@ use crate::search::Search;
 use eqc_blif::Library;
 use std::alloc::{AllocError, Global};
 
-/// The chain of models from model `top` to one that stands before in it, each the model of an instance in the one before
-/// it, in a hierarchy that is refused for one. Fails where memory is refused.
+/// The chain of models from model `top` to one that stands before in it, each the model of an
+/// instance in the one before it, in a hierarchy that is refused for one. Fails where memory is
+/// refused.
 pub fn recursive_chain(
     alloc: Global,
     library: &Library,

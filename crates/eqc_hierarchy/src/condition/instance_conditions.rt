@@ -1,4 +1,5 @@
-//! The conditions by which an instance is at fault: no such model, an unknown formal, a formal twice, an input without a pair.
+//! The conditions by which an instance is at fault: no such model, an unknown formal, a formal
+//! twice, an input without a pair.
 ghost use Rattle.std.specs.Prelude.{◌≡◌, ◌<◌, [], true, not, map, take, length, position, is_some, slice_index_or, IfOk, OnOk, IfSome};
 ghost use Rattle.std.specs.List.{list_any, fold};
 ghost use Rattle.std.specs.Str.{bytes_eq};
@@ -91,8 +92,8 @@ fn ports_of<'a>(alloc: Global, library: &'a Library, m: usize) -> Result<NameSet
     Ok(all)
 }
 
-/// Puts the inputs and outputs of each model into an empty list, and behind them those of a model that isn't there. Fails
-/// where memory is refused.
+/// Puts the inputs and outputs of each model into an empty list, and behind them those of a model
+/// that isn't there. Fails where memory is refused.
 fn put_all_ports<'a>(
     alloc: Global,
     library: &'a Library,
@@ -137,8 +138,8 @@ impl<'a> NamesNoFormal<'a> {
         Ok(NamesNoFormal { library, ports })
     }
 
-    /// The position of the first pair of an instance whose formal is neither input nor output of the instance's model, if
-    /// there is one.
+    /// The position of the first pair of an instance whose formal is neither input nor output of
+    /// the instance's model, if there is one.
     pub(crate) fn first_unknown(&self, instance: &Instance) -> Option<usize>
         ensures { result ≡ position (λ pair. not (is_named (ports self.now (model_number self.now instance.now.model)) pair.0)) instance.now.pairs }
     {
@@ -194,8 +195,8 @@ fn stands_twice(pairs: &[(Name, Name)]) -> bool
     false
 }
 
-/// The position of the first of these pairs whose formal stands in an earlier one, if there is one. The formals before it
-/// are put into an empty set. Fails where memory is refused.
+/// The position of the first of these pairs whose formal stands in an earlier one, if there is one.
+/// The formals before it are put into an empty set. Fails where memory is refused.
 fn first_known<'a>(
     names: &mut NameSet<'a>,
     pairs: &'a [(Name, Name)],
@@ -213,8 +214,8 @@ fn first_known<'a>(
     Ok(None)
 }
 
-/// The position of the first of these pairs whose formal stands in an earlier one, if there is one. Fails where memory is
-/// refused.
+/// The position of the first of these pairs whose formal stands in an earlier one, if there is one.
+/// Fails where memory is refused.
 pub(crate) fn first_repeated(
     alloc: Global,
     key: Key,

@@ -1,4 +1,5 @@
-//! How an instance at fault is told: where it stands in the library, and which name of its model is at fault.
+//! How an instance at fault is told: where it stands in the library, and which name of its model is
+//! at fault.
 ghost use Rattle.std.specs.Prelude.{◌≡◌, ◌<◌, length, slice_index_or};
 ghost use Rattle.eqc_hierarchy.specs.Hierarchy.{model};
 ghost use Rattle.eqc_hierarchy.specs.Reaching.{no_instance};
@@ -7,8 +8,9 @@ use crate::calls::instances;
 use eqc_blif::{Instance, Library};
 use std::marker::Model;
 
-/// An instance at fault: the number of the model in which it stands, its position among the instances of that model,
-/// counted from 0, and the instance itself, which has the name of its own model.
+/// An instance at fault: the number of the model in which it stands, its position among the
+/// instances of that model, counted from 0, and the instance itself, which has the name of its own
+/// model.
 #[derive(Drop)]
 pub struct FoundInstance<'a> {
     model: usize,

@@ -1,4 +1,5 @@
-//! The names that occur in one model, each once, and where the columns of its covers stand among them.
+//! The names that occur in one model, each once, and where the columns of its covers stand among
+//! them.
 ghost use Rattle.std.specs.Prelude.{◌≡◌, ℕ, ◌<◌, ◌++◌, List, [], length, map, IfOk, OnOk};
 ghost use Rattle.std.specs.List.{fold, flat_map};
 ghost use Rattle.eqc_hierarchy.specs.Hierarchy.{model};
@@ -27,9 +28,9 @@ fn last_places(columns: &[SmallVec<u32, 4>]) -> &[u32] {
     }
 }
 
-/// Puts in the names of these columns, and answers the place of each. Many stand in the cover before: in the same column,
-/// or as its output. So the places there, `before` and `output`, are looked at first, and nothing but the time depends on
-/// them.
+/// Puts in the names of these columns, and answers the place of each. Many stand in the cover
+/// before: in the same column, or as its output. So the places there, `before` and `output`, are
+/// looked at first, and nothing but the time depends on them.
 fn insert_columns<'a>(
     alloc: Global,
     names: &mut NameSet<'a>,
@@ -48,8 +49,8 @@ fn insert_columns<'a>(
     Ok(places)
 }
 
-/// Puts in the names of the columns and the output of each of these covers, the places of the columns behind others, and
-/// that of the output behind other outputs.
+/// Puts in the names of the columns and the output of each of these covers, the places of the
+/// columns behind others, and that of the output behind other outputs.
 fn insert_covers<'a>(
     alloc: Global,
     names: &mut NameSet<'a>,
@@ -94,8 +95,9 @@ fn insert_actuals<'a>(names: &mut NameSet<'a>, instances: &'a [Instance]) -> Res
     Ok(())
 }
 
-/// Puts the names that occur in model `m` of a library, which is below the number of models, into an empty set, and the
-/// places of its covers' columns among them behind `columns`, and those of their outputs behind `outputs`.
+/// Puts the names that occur in model `m` of a library, which is below the number of models, into
+/// an empty set, and the places of its covers' columns among them behind `columns`, and those of
+/// their outputs behind `outputs`.
 fn insert_names<'a>(
     alloc: Global,
     names: &mut NameSet<'a>,
@@ -116,9 +118,9 @@ fn insert_names<'a>(
     Ok(())
 }
 
-/// The names that occur in model `m` of a library, which is below the number of models: those of its inputs, outputs,
-/// covers and actuals, each once. The places of its covers' columns among them go behind `columns`, and those of their
-/// outputs behind `outputs`. Fails where memory is refused.
+/// The names that occur in model `m` of a library, which is below the number of models: those of
+/// its inputs, outputs, covers and actuals, each once. The places of its covers' columns among them
+/// go behind `columns`, and those of their outputs behind `outputs`. Fails where memory is refused.
 pub(crate) fn names_of<'a>(
     alloc: Global,
     library: &'a Library,

@@ -1,4 +1,5 @@
-//! What drives a flat signal: an input of the main model, the other end of a connection, or a cover.
+//! What drives a flat signal: an input of the main model, the other end of a connection, or a
+//! cover.
 
 use crate::flat::signals::Signals;
 

@@ -3,8 +3,9 @@ ghost use Rattle.std.specs.Prelude.{◌≡◌, ℕ, ◌+◌, ◌<◌, length, ma
 
 use std::marker::Model;
 
-/// A list of signals of a flat netlist, in order and with repeats. It is kept as a first signal and the distance of each
-/// from it, so that the columns of a cover take no room of their own in each instance of its model.
+/// A list of signals of a flat netlist, in order and with repeats. It is kept as a first signal and
+/// the distance of each from it, so that the columns of a cover take no room of their own in each
+/// instance of its model.
 #[derive(Drop)]
 pub struct Signals<'a> {
     first: u32,

@@ -1,4 +1,5 @@
-//! What `--explain` tells behind the report of a run without a verdict, for each code, worked out by hand from the texts.
+//! What `--explain` tells behind the report of a run without a verdict, for each code, worked out
+//! by hand from the texts.
 
 use super::ends::{holds, same};
 use super::program::{LEAF_FIRST, words_of, writes, written_by, written_on};
@@ -52,11 +53,13 @@ static FLATTENING: &[Row<Told>] = &[
     ("too many signals", ".model f;.subckt a;.subckt a;.end;.model a;.subckt b;.subckt b;.end;.model b;.subckt c;.subckt c;.end;.model c;.subckt d;.subckt d;.end;.model d;.subckt e;.subckt e;.end;.model e;.subckt g;.subckt g;.end;.model g;.subckt h;.subckt h;.end;.model h;.subckt i;.subckt i;.end;.model i;.subckt j;.subckt j;.end;.model j;.subckt k;.subckt k;.end;.model k;.subckt l;.subckt l;.end;.model l;.subckt m;.subckt m;.end;.model m;.subckt n;.subckt n;.end;.model n;.subckt o;.subckt o;.end;.model o;.subckt p;.subckt p;.end;.model p;.subckt q;.subckt q;.end;.model q;.subckt r;.subckt r;.end;.model r;.subckt s;.subckt s;.end;.model s;.subckt t;.subckt t;.end;.model t;.subckt u;.subckt u;.end;.model u;.end;", ("", "refused first 0 29;", &["eqc: standard input: the main model has 2097150 signals and instances in all, and may have 1048576 (29)"])),
 ];
 
-/// Netlists with outputs of one structure, two of a word that have others, one of none, and one that has an index alone.
+/// Netlists with outputs of one structure, two of a word that have others, one of none, and one
+/// that has an index alone.
 const LEFT_OF_A_WORD: &str =
     ".model f;.inputs a b;.outputs q p[0] p[1] p[2] r v_1_;.names a p[0];1 1;.names a b p[1];11 1;.names a b p[2];10 1;.names a b q;01 1;.names b r;1 1;.names a b v_1_;00 1;.end;.model g;.inputs a b;.outputs q p[0] p[1] p[2] r v_1_;.names a p[0];1 1;.names a b p[1];1- 1;.names a b p[2];0- 1;.names a b q;-1 1;.names b r;1 1;.names a b v_1_;-0 1;.end;";
 
-/// Netlists of which a word is equal to another one, and a signal is the opposite of what an instance gives; their outputs differ.
+/// Netlists of which a word is equal to another one, and a signal is the opposite of what an
+/// instance gives; their outputs differ.
 const EQUAL_BELOW: &str =
     ".model f;.inputs a b c;.outputs z;.names a b t[0];11 1;.names b c t[1];11 1;.names a c n;11 1;.names t[0] t[1] n b z;1--- 1;-1-- 1;--11 1;.end;.model g;.inputs a b c;.outputs z;.names a b u[2];11 1;.names b c u[3];11 1;.subckt h x=a y=c o=w;.names u[2] u[3] w b z;11-- 1;--11 1;.end;.model h;.inputs x y;.outputs o;.names x y o;11 0;.end;";
 
@@ -94,7 +97,8 @@ static COMPARING: &[Row<Told>] = &[
     ("an order text that fails", "", ("and or --order broken!", "", &["eqc: broken!: operation interrupted (91)"])),
 ];
 
-/// The status of a command line on a text, where it writes this report, and exactly this on standard error.
+/// The status of a command line on a text, where it writes this report, and exactly this on
+/// standard error.
 fn status_of(
     rt: &(impl AllocGlobal + Threads + Wait + Sync),
     line: &str,
@@ -146,7 +150,8 @@ fn explained_status(
     status_of(rt, &line, text, report, &said)
 }
 
-/// Whether a text, in which `;` stands for LF, ends with one status, with its explanation and without.
+/// Whether a text, in which `;` stands for LF, ends with one status, with its explanation and
+/// without.
 fn is_told(
     rt: &(impl AllocGlobal + Threads + Wait + Sync),
     text: &str,
@@ -158,8 +163,8 @@ fn is_told(
     Ok(plain.is_some() && explained == plain)
 }
 
-/// Each text is reported as ever, with the lines of its explanation where `--explain` asks for them, and with none where it
-/// doesn't.
+/// Each text is reported as ever, with the lines of its explanation where `--explain` asks for
+/// them, and with none where it doesn't.
 fn check_told(rt: &(impl Abort + AllocGlobal + Threads + Wait + Sync), rows: &[Row<Told>]) {
     for (name, text, told) in rows {
         holds(rt, is_told(rt, text, told), name);
@@ -187,7 +192,8 @@ fn many_inputs(alloc: Global, count: u32) -> Result<String, AllocError> {
     format!(in alloc; ".model f;.inputs{names};.end;.model g;")
 }
 
-/// Models on so many levels below the first one, each but the last with two instances of the next one.
+/// Models on so many levels below the first one, each but the last with two instances of the next
+/// one.
 fn levels_below(alloc: Global, levels: u32) -> Result<String, AllocError> {
     let models = doubling(alloc, levels.saturating_add(1))?;
     format!(in alloc; "{models}.end;")
@@ -374,7 +380,8 @@ const LOST_SHARED: &str = "eqc: 1 more output may begin to differ at 'm': 'z'";
 const UNPLACED: &str =
     "eqc: 2 more outputs may begin to differ elsewhere, which was not looked for";
 
-/// Whether a report is the same with `--locate` behind options, and standard error begins and ends with these lines.
+/// Whether a report is the same with `--locate` behind options, and standard error begins and ends
+/// with these lines.
 fn is_located(
     rt: &(impl AllocGlobal + Threads + Wait + Sync),
     text: &str,
@@ -420,8 +427,8 @@ const BRIEF_PLACE: &str =
 
 const BRIEF_HINT: &str = "eqc: --locate tells more places, with their covers and values";
 
-/// Whether `--explain` tells places in short of a difference where standard error is a terminal, and nothing where it isn't, and the report
-/// is the same.
+/// Whether `--explain` tells places in short of a difference where standard error is a terminal,
+/// and nothing where it isn't, and the report is the same.
 fn is_told_in_short(rt: &(impl AllocGlobal + Threads + Wait + Sync)) -> Result<bool, AllocError> {
     let alloc = rt.alloc();
     let text = lines(alloc, LOST)?;

@@ -1,4 +1,5 @@
-//! Which models are compared, by their names or their places, and the warnings on models that others contain.
+//! Which models are compared, by their names or their places, and the warnings on models that
+//! others contain.
 
 use super::ends::holds;
 use super::program::{LEAF_FIRST, Line, words_of, writes, written_by};
@@ -46,7 +47,8 @@ fn models_are_chosen_and_warned_of(rt: HostRuntime) {
     }
 }
 
-/// Texts on standard input, and the warnings on them: a container that is compared is none to warn of.
+/// Texts on standard input, and the warnings on them: a container that is compared is none to warn
+/// of.
 #[rattlefmt::skip]
 static CONTAINED: &[Row<&str>] = &[
     ("a container that is compared", ".model f;.inputs a;.outputs z;.subckt g a=a z=z;.end;.model g;.inputs a;.outputs z;.names a z;1 1;.end;", ""),

@@ -1,5 +1,5 @@
-//! The program's command lines, texts and files with their reports and statuses. They are small enough to be worked out by
-//! hand from the rules of the format and of the command line.
+//! The program's command lines, texts and files with their reports and statuses. They are small
+//! enough to be worked out by hand from the rules of the format and of the command line.
 
 use super::ends::{holds, holds_at};
 use eqc_command::program;
@@ -17,7 +17,8 @@ pub const LEAF_FIRST: &str =
 const OTHER_TOP: &str =
     ".model leaf;.inputs a;.outputs z;.names a z;1 1;.end;.model top;.inputs a b;.outputs z;.subckt leaf a=a z=t;.names t b z;1- 1;-1 1;.end;";
 
-/// The files that the command lines of the tests may name. One whose name ends in `!` fails at its first read.
+/// The files that the command lines of the tests may name. One whose name ends in `!` fails at its
+/// first read.
 #[rattlefmt::skip]
 static FILES: &[(&str, &str)] = &[
     ("equal", EQUAL),
@@ -132,7 +133,8 @@ static BY_WORKERS: &[&str] = &[
 /// A report and its status.
 type Reported = (&'static str, u8);
 
-/// Each text on standard input gives its report and status, whatever the number of workers and of forks.
+/// Each text on standard input gives its report and status, whatever the number of workers and of
+/// forks.
 fn check_texts(rt: &(impl Abort + AllocGlobal + Threads + Wait + Sync), rows: &[Row<Reported>]) {
     for line in BY_WORKERS {
         for (name, text, (report, status)) in rows {
@@ -149,7 +151,8 @@ fn check_texts(rt: &(impl Abort + AllocGlobal + Threads + Wait + Sync), rows: &[
 /// A command line, and what is wanted of it.
 pub type Line<W> = (&'static str, W);
 
-/// Each command line gives its report and status, where standard input has this text, or fails at one of its reads.
+/// Each command line gives its report and status, where standard input has this text, or fails at
+/// one of its reads.
 fn check_lines(
     rt: &(impl Abort + AllocGlobal + Threads + Wait + Sync),
     text: &str,

@@ -1,4 +1,5 @@
-//! How the program ends where it writes no report: faults of files, readers and writers, bad command lines, and help.
+//! How the program ends where it writes no report: faults of files, readers and writers, bad
+//! command lines, and help.
 
 use super::ends::{holds, holds_at};
 use super::program::{reports, words_of, writes, written_by};
@@ -10,7 +11,8 @@ use std::rt::{Clock, Files};
 use std::sync::Wait;
 use std::thread::Threads;
 
-/// Command lines whose files can't be opened or read, the options being looked at after the opening.
+/// Command lines whose files can't be opened or read, the options being looked at after the
+/// opening.
 static FAULTS: &[&str] = &[
     "eqc --order none",
     "eqc none",
@@ -184,8 +186,8 @@ fn the_version_says_what_is_proved(rt: HostRuntime) {
     }
 }
 
-/// Command lines, and for a writer how many bytes it takes at most, which write fails and whether it flushes; then
-/// what is written.
+/// Command lines, and for a writer how many bytes it takes at most, which write fails and whether
+/// it flushes; then what is written.
 static CUT_OFF: &[(&str, usize, usize, bool, &str)] = &[
     ("eqc", NEVER, 0, true, ""),
     ("eqc", 4, 1, true, "equi"),
@@ -219,8 +221,8 @@ fn a_failed_write_is_a_fault(rt: HostRuntime) -> Result<(), AllocError> {
     Ok(())
 }
 
-/// The status of these words, where standard error takes three bytes; none where it got others or anything is on standard
-/// output.
+/// The status of these words, where standard error takes three bytes; none where it got others or
+/// anything is on standard output.
 fn status_unheard(
     rt: &(impl AllocGlobal + Clock + Eprint + Files + Threads + Wait + Sync),
     words: &[String],

@@ -31,7 +31,8 @@ const ERASED: &str = "\r\x1b[K";
 /// The line of a run that reads, up to its time.
 const READING: &str = "\reqc: reading, ";
 
-/// Whether a run with these words on a text that comes late ends with this status, report and error; and what the terminal got.
+/// Whether a run with these words on a text that comes late ends with this status, report and
+/// error; and what the terminal got.
 fn shown_late<R: AllocGlobal + Threads + Wait + Sync>(
     rt: &R,
     words: &[String],
@@ -91,7 +92,8 @@ fn a_line_stands_until_the_report_comes(rt: HostRuntime) {
     }
 }
 
-/// A stage, how far it is, the nodes that it tells of, if any, and its line after as many readings of the clock as rows.
+/// A stage, how far it is, the nodes that it tells of, if any, and its line after as many readings
+/// of the clock as rows.
 type Line = (Stage, usize, usize, Option<u32>, &'static str);
 
 #[rattlefmt::skip]
@@ -174,7 +176,8 @@ fn the_last_output_that_was_begun_is_shown(rt: HostRuntime) {
     holds(&rt, is_last_shown(&rt), "output");
 }
 
-/// Whether nothing was written where no line stands: neither at the end nor by the thread that shows, which ends at once.
+/// Whether nothing was written where no line stands: neither at the end nor by the thread that
+/// shows, which ends at once.
 fn is_silent<R: AllocGlobal + Wait>(rt: &R) -> bool {
     let terminal = Terminal::new(Vec::new(rt.alloc()), 25_000);
     let clock = with_clock(rt, &terminal);

@@ -1,4 +1,5 @@
-//! Bytes on their way to a writer: they wait in a block, which is written when it is full. No memory is taken.
+//! Bytes on their way to a writer: they wait in a block, which is written when it is full. No
+//! memory is taken.
 ghost use Rattle.std.specs.Prelude.{◌≡◌, ℕ, List, [], ◌∷◌, Option, OnOk, OnErr, false};
 ghost use Rattle.std.specs.Io.KnownBytes.{Appends};
 ghost use Rattle.eqc_report.specs.Ends.{AppendsPrefix};

@@ -8,7 +8,8 @@ use crate::io::fault::RunFault;
 use std::io;
 use std::io::{ErrorKind, Write};
 
-/// Writes some of these bytes, and says how many: one at least. A write that takes nothing has failed.
+/// Writes some of these bytes, and says how many: one at least. A write that takes nothing has
+/// failed.
 fn write_some<W: Write>(out: &mut W, stage: &mut Stage, bytes: &[u8]) -> io::Result<usize>
     requires { stage.old ≡ Stage.Open }
     ensures some { IfOk result (λ n. (0 < n) × (n ≤ length bytes.now)) }
@@ -60,7 +61,8 @@ fn write_text_in<W: Write>(out: &mut W, stage: &mut Stage, text: &[u8]) -> io::R
     Ok(())
 }
 
-/// Writes the text, in as many writes as it takes, and doesn't flush it. Nothing is tried again. No memory is taken.
+/// Writes the text, in as many writes as it takes, and doesn't flush it. Nothing is tried again. No
+/// memory is taken.
 pub(crate) fn write_all<W: Write>(out: &mut W, text: &[u8]) -> io::Result<()>
     ensures whole { OnOk result (Appends (W.contents out.old) (W.contents out.new) text.now) }
     ensures part { OnErr result (AppendsPrefix (W.contents out.old) (W.contents out.new) text.now) }
@@ -80,7 +82,8 @@ fn write_to_end<W: Write>(out: &mut W, stage: &mut Stage, text: &[u8]) -> io::Re
     flush(out, stage)
 }
 
-/// Writes the text, in as many writes as it takes, and flushes it. Nothing is tried again. No memory is taken.
+/// Writes the text, in as many writes as it takes, and flushes it. Nothing is tried again. No
+/// memory is taken.
 pub(crate) fn write_whole<W: Write>(out: &mut W, text: &[u8]) -> io::Result<()>
     ensures whole { OnOk result (Appends (W.contents out.old) (W.contents out.new) text.now) }
     ensures part { OnErr result (AppendsPrefix (W.contents out.old) (W.contents out.new) text.now) }
@@ -89,8 +92,8 @@ pub(crate) fn write_whole<W: Write>(out: &mut W, text: &[u8]) -> io::Result<()>
     write_to_end(out, &mut stage, text)
 }
 
-/// Writes the text, in as many writes as it takes, and flushes it. A write that fails or takes nothing, or a
-/// flush that fails, is `Write`, 92; nothing is tried again. No memory is taken.
+/// Writes the text, in as many writes as it takes, and flushes it. A write that fails or takes
+/// nothing, or a flush that fails, is `Write`; nothing is tried again. No memory is taken.
 pub fn write_text<W: Write>(out: &mut W, text: &[u8]) -> Result<(), RunFault>
     ensures whole { OnOk result (Appends (W.contents out.old) (W.contents out.new) text.now) }
     ensures part { OnErr result (AppendsPrefix (W.contents out.old) (W.contents out.new) text.now) }

@@ -92,8 +92,8 @@ fn put_differences<W: Write>(out: &mut W, differences: &Differences) -> io::Resu
     spool.close(out)
 }
 
-/// Writes the report's bytes and flushes the writer. Memory is refused before the first byte, and for a refusal alone. Nothing
-/// is tried again.
+/// Writes the report's bytes and flushes the writer. Memory is refused before the first byte, and
+/// for a refusal alone. Nothing is tried again.
 fn put_report<W: Write>(alloc: Global, report: &Report, out: &mut W) -> Result<(), StreamFault>
     ensures written { OnOk result (Appends (W.contents out.old) (W.contents out.new) (text (report_of report.now))) }
     ensures part { OnErr result (AppendsPrefix (W.contents out.old) (W.contents out.new) (text (report_of report.now))) }
@@ -113,9 +113,9 @@ fn put_report<W: Write>(alloc: Global, report: &Report, out: &mut W) -> Result<(
     Ok(())
 }
 
-/// Writes the report's bytes and flushes the writer. `Memory` comes before the first byte, and for a report that
-/// is a refusal alone; a write that fails or takes nothing, or a flush that fails, is `Write`, and nothing
-/// is tried again.
+/// Writes the report's bytes and flushes the writer. `Memory` comes before the first byte, and for
+/// a report that is a refusal alone; a write that fails or takes nothing, or a flush that fails, is
+/// `Write`, and nothing is tried again.
 pub fn write_report<W: Write>(alloc: Global, report: &Report, out: &mut W) -> Result<(), RunFault>
     ensures written { OnOk result (Appends (W.contents out.old) (W.contents out.new) (text (report_of report.now))) }
     ensures part { OnErr result (AppendsPrefix (W.contents out.old) (W.contents out.new) (text (report_of report.now))) }
@@ -139,11 +139,12 @@ fn write_stopped<W: Write>(out: &mut W) -> io::Result<Status>
     Ok(Status::Stopped)
 }
 
-/// Writes the bytes of a report of any kind and flushes the writer, or does so with those of `stopped 72` where the report is a
-/// refusal, whose bytes take memory, and that is refused. It answers the kind of what was written. Nothing is tried again.
+/// Writes the bytes of a report of any kind and flushes the writer, or does so with those of
+/// `stopped 72` where the report is a refusal, whose bytes take memory, and that is refused. It
+/// answers the kind of what was written. Nothing is tried again.
 ///
-/// It fails with the writer's error where a write or the flush fails, and with `WriteZero` where a write takes nothing; then a part
-/// of what was to be written was written, and maybe all of it.
+/// It fails with the writer's error where a write or the flush fails, and with `WriteZero` where a
+/// write takes nothing; then a part of what was to be written was written, and maybe all of it.
 pub fn write_or_stop<W: Write>(alloc: Global, report: &Report, out: &mut W) -> io::Result<Status>
     ensures written { IfOk result (λ status. IsWritten (report_of report.now) (W.contents out.old) (W.contents out.new) status) }
     ensures part { OnErr result (IsCutShort (report_of report.now) (W.contents out.old) (W.contents out.new)) }

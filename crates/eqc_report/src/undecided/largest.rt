@@ -1,4 +1,5 @@
-//! Which words have the most outputs that are left undecided. Nothing is believed of it: how many each has is counted by itself.
+//! Which words have the most outputs that are left undecided. Nothing is believed of it: how many
+//! each has is counted by itself.
 
 use crate::undecided::counting::{IsLeft, Test};
 use crate::undecided::word::number_in;
@@ -24,7 +25,8 @@ fn mixed(start: u64, bytes: &[u8]) -> u64 {
     state
 }
 
-/// What a name begins and ends with, as a number, if it has an index. Two words may have one number: then less is told of them.
+/// What a name begins and ends with, as a number, if it has an index. Two words may have one
+/// number: then less is told of them.
 fn key_of(name: &[u8]) -> Option<u64> {
     match number_in(name) {
         None => None,
@@ -35,7 +37,8 @@ fn key_of(name: &[u8]) -> Option<u64> {
     }
 }
 
-/// The outputs that are compared and have an index, those of a word behind each other. Fails where memory is refused.
+/// The outputs that are compared and have an index, those of a word behind each other. Fails where
+/// memory is refused.
 fn keyed(alloc: Global, pair: &Pair<'_>) -> Result<Vec<(u64, usize)>, AllocError> {
     let outputs = pair.first().outputs();
     let mut all = Vec::new(alloc);
@@ -50,7 +53,8 @@ fn keyed(alloc: Global, pair: &Pair<'_>) -> Result<Vec<(u64, usize)>, AllocError
     Ok(all)
 }
 
-/// Puts a run behind others if it is a word of which some are left. The more are left, the less is the first of its numbers.
+/// Puts a run behind others if it is a word of which some are left. The more are left, the less is
+/// the first of its numbers.
 fn end(ranks: &mut Vec<(usize, usize)>, run: Run) -> Result<(), AllocError> {
     if run.left > 0 && run.all > 1 {
         ranks.push((usize::MAX - run.left, run.first))?;
@@ -58,7 +62,8 @@ fn end(ranks: &mut Vec<(usize, usize)>, run: Run) -> Result<(), AllocError> {
     Ok(())
 }
 
-/// An output of each word of which some are left, those first of which most are. Fails where memory is refused.
+/// An output of each word of which some are left, those first of which most are. Fails where memory
+/// is refused.
 pub(crate) fn largest(
     alloc: Global,
     pair: &Pair<'_>,

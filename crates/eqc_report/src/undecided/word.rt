@@ -1,4 +1,5 @@
-//! Words among the names of outputs: their names begin with the same bytes and end with the same, and have a number between them.
+//! Words among the names of outputs: their names begin with the same bytes and end with the same,
+//! and have a number between them.
 ghost use Rattle.std.specs.Prelude.{◌≡◌, ◌≤◌, length, is_some, IfSome};
 ghost use Rattle.std.specs.List.{list_all};
 ghost use Rattle.std.specs.Char.{is_ascii_digit};

@@ -1,4 +1,5 @@
-//! Which nodes of a graph may enter another one: those whose operands have entered. Nothing is believed of it.
+//! Which nodes of a graph may enter another one: those whose operands have entered. Nothing is
+//! believed of it.
 ghost use Rattle.std.specs.Prelude.{◌<◌, IfSome};
 
 use eqc_graph::{Graph, Node, node_of};
@@ -8,8 +9,8 @@ use std::collections::BinaryHeap;
 /// In place of an edge where there is none.
 const NONE: u32 = u32::MAX;
 
-/// The nodes that may enter, the lowest first, and the gates that wait for operands. The first operand of gate k is its edge 2k, the
-/// second one 2k + 1.
+/// The nodes that may enter, the lowest first, and the gates that wait for operands. The first
+/// operand of gate k is its edge 2k, the second one 2k + 1.
 #[derive(Drop)]
 pub(crate) struct Ready {
     /// By node: the first edge from it.
@@ -40,8 +41,8 @@ fn has_entered(table: &[Option<u32>], k: u32) -> bool {
 }
 
 impl Ready {
-    /// The nodes that are to enter: the marked ones and inputs, but for those that have a literal in the table. Fails where memory is
-    /// refused.
+    /// The nodes that are to enter: the marked ones and inputs, but for those that have a literal
+    /// in the table. Fails where memory is refused.
     pub(crate) fn of(
         alloc: Global,
         graph: &Graph,

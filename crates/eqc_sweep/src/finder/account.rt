@@ -5,7 +5,8 @@ use crate::effort::{Effort, Tally};
 use crate::finder::hard::Hard;
 use eqc_search::{Answer, Budget};
 
-/// Conflicts that there are at the start, in questions that take all that they may, and what each question adds.
+/// Conflicts that there are at the start, in questions that take all that they may, and what each
+/// question adds.
 const AT_START: u64 = 64;
 
 const EACH: u64 = 100;
@@ -15,12 +16,14 @@ const PART: u64 = 8;
 
 const FEWEST: u64 = 100;
 
-/// Literals that may be visited for each conflict, and conflicts' worth of them that there are without one.
+/// Literals that may be visited for each conflict, and conflicts' worth of them that there are
+/// without one.
 const VISITS: u64 = 1_000;
 
 const WITHOUT: u64 = 100;
 
-/// How many times as many gates a window has each time that it is made larger. Most nodes are told equal or unequal by what lies near them.
+/// How many times as many gates a window has each time that it is made larger. Most nodes are told
+/// equal or unequal by what lies near them.
 const GROWTH: u32 = 8;
 
 const GROWTH_FOR_OUTPUTS: u32 = 4;
@@ -28,16 +31,18 @@ const GROWTH_FOR_OUTPUTS: u32 = 4;
 /// So many visits count as a conflict, where there were fewer conflicts.
 const WORTH: u64 = 1_000;
 
-/// Work counts once more for each so many nodes of the graph: it takes longer where these are far apart in memory.
+/// Work counts once more for each so many nodes of the graph: it takes longer where these are far
+/// apart in memory.
 const LARGE: u32 = 200_000;
 
-/// How much of that may be in vain, in tenths: simulations, and questions after which no node was found equal. A netlist of which no two
-/// nodes are equal costs no more, whatever its size.
+/// How much of that may be in vain, in tenths: simulations, and questions after which no node was
+/// found equal. A netlist of which no two nodes are equal costs no more, whatever its size.
 const IN_VAIN: u64 = 7;
 
-/// A question may do so much work for each conflict that it may have, or so many times that of the hardest one so far after which a
-/// node was found equal, if that is more. Most nodes that are equal are found with a hundredth of that, and a question about others may
-/// take all that there is.
+/// A question may do so much work for each conflict that it may have, or so many times that of the
+/// hardest one so far after which a node was found equal, if that is more. Most nodes that are
+/// equal are found with a hundredth of that, and a question about others may take all that there
+/// is.
 const FIRST: u64 = 5_000;
 
 const HARDER: u64 = 8;
@@ -48,7 +53,8 @@ const LATELY: u32 = 64;
 /// Doubt beyond that is as this.
 pub(crate) const MOST_DOUBT: u8 = 10;
 
-/// The work of a question that visits nothing, and of a simulated word: the signature is another one then, and is entered anew.
+/// The work of a question that visits nothing, and of a simulated word: the signature is another
+/// one then, and is entered anew.
 const QUESTION: u64 = 200;
 
 const WORD: u64 = 4;
@@ -73,7 +79,8 @@ pub(crate) struct Account {
     found: u64,
     open: u64,
     is_cut: bool,
-    /// Of late, questions about nodes of which something is doubted: those by which a node was found equal, and those given up.
+    /// Of late, questions about nodes of which something is doubted: those by which a node was
+    /// found equal, and those given up.
     doubted_found: u32,
     doubted_open: u32,
     /// Whether questions about such nodes may have as much as others.
@@ -104,8 +111,8 @@ fn weight_of(nodes: u32) -> u64
     1 + u64::from(nodes / LARGE)
 }
 
-/// The conflicts that are left of what a question about a graph of so many nodes was given. Where much was visited for each, that
-/// counts as more of them.
+/// The conflicts that are left of what a question about a graph of so many nodes was given. Where
+/// much was visited for each, that counts as more of them.
 pub(crate) fn conflicts_left(given: Budget, left: Budget, nodes: u32) -> u64 {
     let visits = given.visits.saturating_sub(left.visits);
     let worth = visits.saturating_mul(weight_of(nodes)) / WORTH;
@@ -131,7 +138,8 @@ impl Account {
         }
     }
 
-    /// The same, where questions about nodes of which something is doubted may have as much as others.
+    /// The same, where questions about nodes of which something is doubted may have as much as
+    /// others.
     pub(crate) fn patient(effort: Effort) -> Account {
         Account {
             is_patient: true,
@@ -165,14 +173,16 @@ impl Account {
         all.min((vain / weight).saturating_sub(self.vain))
     }
 
-    /// Whether more may be spent on a graph of so many nodes. It is asked where there is a question: if not, this is noted.
+    /// Whether more may be spent on a graph of so many nodes. It is asked where there is a
+    /// question: if not, this is noted.
     pub(crate) fn has_room(&mut self, nodes: u32) -> bool {
         let has_room = self.left(nodes) > 0;
         self.is_cut |= !has_room;
         has_room
     }
 
-    /// What the next question about a graph of so many nodes may spend, where so much is doubted of what lies below it.
+    /// What the next question about a graph of so many nodes may spend, where so much is doubted of
+    /// what lies below it.
     pub(crate) fn open(&mut self, nodes: u32, doubt: u8) -> Budget {
         let doubt = if self.minds_doubt() { doubt } else { 0 };
         self.conflicts = self.conflicts.saturating_add(EACH);

@@ -4,7 +4,8 @@ use crate::finder::Finder;
 use eqc_graph::negated_if;
 
 impl Finder {
-    /// The oldest literal that has a signature, whose first simulated value is this one, if there is one.
+    /// The oldest literal that has a signature, whose first simulated value is this one, if there
+    /// is one.
     fn oldest(&self, signature: u64, phase: bool) -> Option<u32> {
         let node = self
             .classes
@@ -15,7 +16,8 @@ impl Finder {
         Some(negated_if(2 * node, phase != self.patterns.phase(node)))
     }
 
-    /// The oldest literal that simulation doesn't tell from the carry of three, of which the first is the sum of literals, if there is one.
+    /// The oldest literal that simulation doesn't tell from the carry of three, of which the first
+    /// is the sum of literals, if there is one.
     pub(crate) fn like_carry(&self, literals: &[u32], y: u32, z: u32) -> Option<u32> {
         let (signature, phase) = self.patterns.carry(literals, y, z);
         self.oldest(signature, phase)
@@ -27,7 +29,8 @@ impl Finder {
         self.oldest(signature, phase)
     }
 
-    /// The oldest literal that simulation doesn't tell from a node, if that isn't one of these nodes.
+    /// The oldest literal that simulation doesn't tell from a node, if that isn't one of these
+    /// nodes.
     pub(crate) fn like_node(&self, node: u32, but: &[u32]) -> Option<u32> {
         let signature = self.patterns.signature(node);
         let other = self

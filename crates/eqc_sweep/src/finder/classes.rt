@@ -62,7 +62,8 @@ impl Classes {
         None
     }
 
-    /// Enters the next node behind the others of its chain, unless there are enough of its signature.
+    /// Enters the next node behind the others of its chain, unless there are enough of its
+    /// signature.
     pub(crate) fn push(&mut self, signatures: &[u64]) -> Result<(), AllocError> {
         if self.nexts.len() >= self.heads.len() / 2 {
             self.nexts.push(NONE)?;
@@ -107,7 +108,8 @@ impl Classes {
         }
     }
 
-    /// Enters all nodes anew, after their signatures have changed or where there are too few chains.
+    /// Enters all nodes anew, after their signatures have changed or where there are too few
+    /// chains.
     pub(crate) fn rebuild(&mut self, signatures: &[u64]) -> Result<(), AllocError> {
         let mut chains = self.heads.len().max(1024);
         if chains <= self.nexts.len().saturating_mul(2) {

@@ -76,7 +76,8 @@ impl Counterexamples {
         self.count = ROOM;
     }
 
-    /// Adds values of inputs, in each place with the other value for one of them: in row k of these for the 64 behind the first 64 * k.
+    /// Adds values of inputs, in each place with the other value for one of them: in row k of these
+    /// for the 64 behind the first 64 * k.
     pub(crate) fn add_flipped(&mut self, model: &[(u32, bool)], row: usize) {
         for (input, (node, value)) in model.iter().enumerate() {
             let at = *node as usize;

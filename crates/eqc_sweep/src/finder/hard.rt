@@ -5,7 +5,8 @@ use eqc_search::Budget;
 /// A question is hard with so many conflicts.
 const HARD: u64 = 600;
 
-/// What each way begins with, as if it had found a node by so much work: a way that fails is left for the other one soon.
+/// What each way begins with, as if it had found a node by so much work: a way that fails is left
+/// for the other one soon.
 const AT_FIRST: Way = Way {
     found: 1,
     work: 1_000_000,
@@ -37,8 +38,8 @@ impl Way {
     }
 }
 
-/// What came of hard questions in which the nodes of a conflict were noted in the order in which they last were in one, and of those in
-/// which they were as they were met.
+/// What came of hard questions in which the nodes of a conflict were noted in the order in which
+/// they last were in one, and of those in which they were as they were met.
 #[derive(Clone, Copy, Debug)]
 pub(crate) struct Hard {
     has_two_ways: bool,
@@ -65,7 +66,8 @@ impl Hard {
         }
     }
 
-    /// Counts a question that had so many conflicts, whether a node was found equal by it, and its work.
+    /// Counts a question that had so many conflicts, whether a node was found equal by it, and its
+    /// work.
     pub(crate) fn count(&mut self, given: Budget, conflicts: u64, is_equal: bool, work: u64) {
         if conflicts < HARD {
             return;

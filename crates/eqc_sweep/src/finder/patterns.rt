@@ -1,4 +1,5 @@
-//! Simulation: words of random patterns and of counterexamples, and each node's signature. Nothing is believed of it.
+//! Simulation: words of random patterns and of counterexamples, and each node's signature. Nothing
+//! is believed of it.
 
 pub(crate) mod carry;
 pub(crate) mod fixed;
@@ -24,8 +25,8 @@ const SMALL: u32 = 65_536;
 #[derive(Drop)]
 pub(crate) struct Patterns {
     alloc: Global,
-    /// The words of nodes in the first rows, those in the next ones, and so on: those of a node lie together, since a new node needs
-    /// those of its operands in all rows.
+    /// The words of nodes in the first rows, those in the next ones, and so on: those of a node lie
+    /// together, since a new node needs those of its operands in all rows.
     blocks: Vec<Vec<Words>>,
     rows: usize,
     /// How many rows there are before those of counterexamples.
@@ -89,7 +90,8 @@ impl Patterns {
         })
     }
 
-    /// The same rows without nodes, for a graph whose inputs are those of these nodes, in the same order.
+    /// The same rows without nodes, for a graph whose inputs are those of these nodes, in the same
+    /// order.
     pub(crate) fn again(
         &self,
         alloc: Global,
@@ -169,8 +171,9 @@ impl Patterns {
         (self.word(row, k as usize) >> (place % 64)) % 2 == 1
     }
 
-    /// The words of a node in the rows of a block, if it is an input. A gate draws as many random numbers as an input, though it needs
-    /// none: so later inputs keep the words with which all was measured, since other words find other things.
+    /// The words of a node in the rows of a block, if it is an input. A gate draws as many random
+    /// numbers as an input, though it needs none: so later inputs keep the words with which all was
+    /// measured, since other words find other things.
     fn drawn(&mut self, node: Node, block: usize) -> Words {
         let mut words = [0; TOGETHER];
         for lane in 0..TOGETHER {
@@ -260,8 +263,8 @@ impl Patterns {
         flips & (u64::MAX - 1)
     }
 
-    /// Simulates a row whose inputs have words, and puts it behind the others, or in place of the oldest of
-    /// counterexamples.
+    /// Simulates a row whose inputs have words, and puts it behind the others, or in place of the
+    /// oldest of counterexamples.
     pub(crate) fn add_row(&mut self, graph: &Graph, mut row: Vec<u64>) -> Result<(), AllocError> {
         self.lengthen(graph, &mut row)?;
         for k in 0..graph.len() {
@@ -301,8 +304,8 @@ impl Patterns {
         Ok(())
     }
 
-    /// Forgets the rows that a graph of as many nodes has no room for, and answers whether there were some: nodes have other signatures
-    /// then.
+    /// Forgets the rows that a graph of as many nodes has no room for, and answers whether there
+    /// were some: nodes have other signatures then.
     pub(crate) fn shorten(&mut self) -> bool {
         let most = self.fixed.saturating_add(MOST);
         if self.signatures.len() < SMALL as usize || self.rows <= most {

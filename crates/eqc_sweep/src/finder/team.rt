@@ -136,8 +136,8 @@ fn work_on(
     }
 }
 
-/// Asks all questions, each by one of the searches, which take them in turn, in threads of their own or in this one where none can be
-/// started. Fails where memory is refused.
+/// Asks all questions, each by one of the searches, which take them in turn, in threads of their
+/// own or in this one where none can be started. Fails where memory is refused.
 pub(crate) fn ask_all<R: Threads + Sync>(
     rt: &R,
     alloc: Global,

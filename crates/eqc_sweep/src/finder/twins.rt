@@ -23,8 +23,8 @@ pub struct Twins {
 }
 
 #[tactic(auto, using(crate::proofs::TwinsLemmas::asked_more))]
-/// Puts a pair with what it took to those that are equal, where the answer is to it and says that it is. The question might have so many
-/// conflicts.
+/// Puts a pair with what it took to those that are equal, where the answer is to it and says that
+/// it is. The question might have so many conflicts.
 fn keep_equal(
     graph: &Graph,
     pairs: &[Twins],
@@ -66,8 +66,8 @@ fn keep_equal(
 }
 
 impl Finder {
-    /// Those pairs that are found equal, each by a question of its own with so many conflicts, in their order. What is found doesn't
-    /// depend on how many ask. Fails where memory is refused.
+    /// Those pairs that are found equal, each by a question of its own with so many conflicts, in
+    /// their order. What is found doesn't depend on how many ask. Fails where memory is refused.
     pub(crate) fn equal_among<R: Threads + Sync>(
         &mut self,
         rt: &R,

@@ -128,8 +128,9 @@ impl Finder {
         })
     }
 
-    /// The next questions about nodes that wait, from a place on, and the place behind the last of these. There are no more once these
-    /// may spend all that is left. Fails where memory is refused.
+    /// The next questions about nodes that wait, from a place on, and the place behind the last of
+    /// these. There are no more once these may spend all that is left. Fails where memory is
+    /// refused.
     fn questions(
         &mut self,
         graph: &Graph,
@@ -149,7 +150,8 @@ impl Finder {
         Ok((some, self.waiting.len()))
     }
 
-    /// Takes an answer in, and notes where it says that a node is equal to an older one. Fails where memory is refused.
+    /// Takes an answer in, and notes where it says that a node is equal to an older one. Fails
+    /// where memory is refused.
     fn take(
         &mut self,
         graph: &Graph,
@@ -185,7 +187,8 @@ impl Finder {
         Ok(())
     }
 
-    /// The answers to questions that are asked side by side, in the order of these. Fails where memory is refused.
+    /// The answers to questions that are asked side by side, in the order of these. Fails where
+    /// memory is refused.
     pub(crate) fn answers<R: Threads + Sync>(
         &mut self,
         rt: &R,
@@ -231,8 +234,8 @@ impl Finder {
         Ok(())
     }
 
-    /// Asks about all nodes that wait, and answers those that are equal to older ones: none waits then. What is found doesn't depend on
-    /// how many ask. Fails where memory is refused.
+    /// Asks about all nodes that wait, and answers those that are equal to older ones: none waits
+    /// then. What is found doesn't depend on how many ask. Fails where memory is refused.
     pub(crate) fn ask_waiting<R: Threads + Sync>(
         &mut self,
         rt: &R,

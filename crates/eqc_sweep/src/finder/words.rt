@@ -76,7 +76,8 @@ pub(crate) fn words_by(block: &[Words], node: Node, inputs: Words) -> Words {
     }
 }
 
-/// What words in a block of this number add to a signature, where there are so many rows, and a flipped word is taken for its complement.
+/// What words in a block of this number add to a signature, where there are so many rows, and a
+/// flipped word is taken for its complement.
 #[inline(always)]
 pub(crate) fn shares_of(block: usize, rows: usize, words: Words, is_flipped: bool) -> u64 {
     let flip = if is_flipped { u64::MAX } else { 0 };

@@ -1,4 +1,5 @@
-//! Rules for a conjunction, over one and two levels. Each says what stands in its place, if it applies.
+//! Rules for a conjunction, over one and two levels. Each says what stands in its place, if it
+//! applies.
 ghost use Rattle.std.specs.Prelude.{ℕ, List, ◌&&◌, IfSome};
 ghost use Rattle.eqc_graph.specs.Graph.{differ, IsWithin, IsGraph};
 ghost use Rattle.eqc_sweep.specs.Gates.{not_both, IsGate, Makes};
@@ -161,7 +162,8 @@ fn of_gates(x: u32, gate: Gate, y: u32, other: Gate) -> Option<Reduced>
 }
 
 #[tactic(auto, using(crate::proofs::AndLemmas::and_commuted))]
-/// What stands in place of a conjunction, by the first rule that applies to its literals in either order.
+/// What stands in place of a conjunction, by the first rule that applies to its literals in either
+/// order.
 pub(crate) fn and_rule(graph: &Graph, x: u32, y: u32) -> Option<Reduced>
     requires x { IsWithin graph.now x }
     requires y { IsWithin graph.now y }

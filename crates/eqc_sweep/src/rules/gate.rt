@@ -4,7 +4,8 @@ ghost use Rattle.eqc_sweep.specs.Gates.{IsGate};
 
 use eqc_graph::{Graph, Node, is_negated, negated_if, node_of};
 
-/// What a literal is of two others. The complement of a gate is a kind of its own, so the rules know of no complements.
+/// What a literal is of two others. The complement of a gate is a kind of its own, so the rules
+/// know of no complements.
 #[derive(Clone, Copy, PartialEq, Eq, Debug)]
 pub(crate) enum Gate {
     /// Both are true.

@@ -51,7 +51,8 @@ fn of_one(x: u32, gate: Gate, y: u32) -> Option<Reduced>
 }
 
 #[tactic(auto, using(crate::proofs::XorLemmas::differ_commuted))]
-/// What stands in place of a difference, by the first rule that applies to its literals in either order.
+/// What stands in place of a difference, by the first rule that applies to its literals in either
+/// order.
 pub(crate) fn xor_rule(graph: &Graph, x: u32, y: u32) -> Option<Reduced>
     requires x { IsWithin graph.now x }
     requires y { IsWithin graph.now y }

@@ -1,4 +1,5 @@
-//! What a sweep knows besides its graph: the gates that were asked for, and nodes that look alike. Nothing is promised of it.
+//! What a sweep knows besides its graph: the gates that were asked for, and nodes that look alike.
+//! Nothing is promised of it.
 
 use crate::reduced::Reduced;
 use crate::rules::reduced;
@@ -12,7 +13,8 @@ impl Sweep {
         self.table.entries.len()
     }
 
-    /// The gate in one of these places and its literal, which is of another gate's node where the two were found equal.
+    /// The gate in one of these places and its literal, which is of another gate's node where the
+    /// two were found equal.
     pub fn asked(&self, place: usize) -> Option<(Node, u32)> {
         let known = *self.table.entries.get(place)?;
         if known.node == Node::Constant {
@@ -50,22 +52,26 @@ impl Sweep {
         Some(negated(neither))
     }
 
-    /// The oldest literal that simulation doesn't tell from the carry of three others, if there is one.
+    /// The oldest literal that simulation doesn't tell from the carry of three others, if there is
+    /// one.
     pub fn like_carry(&self, x: u32, y: u32, z: u32) -> Option<u32> {
         self.finder.like_carry(&[x], y, z)
     }
 
-    /// The oldest literal that simulation doesn't tell from the carry of three, of which the first is the sum of literals, if there is one.
+    /// The oldest literal that simulation doesn't tell from the carry of three, of which the first
+    /// is the sum of literals, if there is one.
     pub fn like_carry_of_sum(&self, literals: &[u32], y: u32, z: u32) -> Option<u32> {
         self.finder.like_carry(literals, y, z)
     }
 
-    /// The oldest literal that simulation doesn't tell from the sum of literals, which is true where an odd number of them are, if there is one.
+    /// The oldest literal that simulation doesn't tell from the sum of literals, which is true
+    /// where an odd number of them are, if there is one.
     pub fn like_sum(&self, literals: &[u32]) -> Option<u32> {
         self.finder.like_sum(literals)
     }
 
-    /// The oldest literal that simulation doesn't tell from a node, if that isn't one of these nodes.
+    /// The oldest literal that simulation doesn't tell from a node, if that isn't one of these
+    /// nodes.
     pub fn like_node(&self, node: u32, but: &[u32]) -> Option<u32> {
         self.finder.like_node(node, but)
     }

@@ -10,8 +10,8 @@ fn plain(x: u32) -> u32
     negated_if(x, is_negated(x))
 }
 
-/// A gate's form with ordered literals, for a difference without complements, and whether it is the complement of the
-/// gate.
+/// A gate's form with ordered literals, for a difference without complements, and whether it is the
+/// complement of the gate.
 pub(crate) fn ordered(node: Node) -> (Node, bool)
     ensures { IsFormOf node result.0 result.1 }
 {

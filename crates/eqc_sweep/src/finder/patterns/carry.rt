@@ -17,7 +17,8 @@ fn sum_in(block: &[Words], literals: &[u32]) -> Words {
 }
 
 impl Patterns {
-    /// The signature that the carry of three has, of which the first is the sum of literals, and its first simulated value.
+    /// The signature that the carry of three has, of which the first is the sum of literals, and
+    /// its first simulated value.
     pub(crate) fn carry(&self, literals: &[u32], y: u32, z: u32) -> (u64, bool) {
         let mut signature: u64 = 0;
         let mut is_flipped = false;
@@ -38,7 +39,8 @@ impl Patterns {
         (signature, is_flipped)
     }
 
-    /// The signature that the sum of literals has, which is true where an odd number of them are, and its first simulated value.
+    /// The signature that the sum of literals has, which is true where an odd number of them are,
+    /// and its first simulated value.
     pub(crate) fn sum(&self, literals: &[u32]) -> (u64, bool) {
         let mut signature: u64 = 0;
         let mut is_flipped = false;

@@ -5,16 +5,18 @@ use crate::finder::random::Random;
 /// How many rows of random patterns there are.
 const RANDOM: usize = 8;
 
-/// The random row in the last two places of which all inputs are true, and all are false. So a conjunction of all inputs doesn't look
-/// constant either.
+/// The random row in the last two places of which all inputs are true, and all are false. So a
+/// conjunction of all inputs doesn't look constant either.
 const ALIKE: usize = RANDOM - 1;
 
-/// How many rows there are in which all inputs but one are true, each of 256 inputs in its turn, and how many in which all but one
-/// are false. They tell conjunctions of many inputs apart, and disjunctions, which look constant under random patterns.
+/// How many rows there are in which all inputs but one are true, each of 256 inputs in its turn,
+/// and how many in which all but one are false. They tell conjunctions of many inputs apart, and
+/// disjunctions, which look constant under random patterns.
 const ALL_BUT_ONE: usize = 4;
 
-/// Where the rows of intervals begin, and how many there are. All inputs have one value there, but for those of an interval, which are
-/// random: they tell apart what goes along a chain, as whether no input behind one is true.
+/// Where the rows of intervals begin, and how many there are. All inputs have one value there, but
+/// for those of an interval, which are random: they tell apart what goes along a chain, as whether
+/// no input behind one is true.
 const FIRST_INTERVAL: usize = RANDOM + 2 * ALL_BUT_ONE;
 
 const INTERVALS: usize = 4;
@@ -22,9 +24,10 @@ const INTERVALS: usize = 4;
 /// How many rows there are before those of counterexamples, where inputs are few.
 pub(crate) const FIXED: usize = FIRST_INTERVAL + INTERVALS;
 
-/// How far the inputs are from one another that are true in a pattern of a row behind these, and how many such rows there are, one for
-/// each 64 of it. They tell apart what goes along a chain of more than 256 inputs, as the number of the last one that is true: a bit of
-/// it changes where the one before is as far away as the bit is worth.
+/// How far the inputs are from one another that are true in a pattern of a row behind these, and
+/// how many such rows there are, one for each 64 of it. They tell apart what goes along a chain of
+/// more than 256 inputs, as the number of the last one that is true: a bit of it changes where the
+/// one before is as far away as the bit is worth.
 const APART: [usize; 3] = [64, 128, 1_024];
 
 const SPACED: usize = (APART[0] + APART[1] + APART[2]) / 64;
@@ -47,8 +50,8 @@ fn turn_of(input: u32, row: usize) -> u64 {
     }
 }
 
-/// In each place, whether an input of this number is in the interval of that place: one of numbers below 16 to 2,048, by the place. Of
-/// larger numbers what is left counts.
+/// In each place, whether an input of this number is in the interval of that place: one of numbers
+/// below 16 to 2,048, by the place. Of larger numbers what is left counts.
 fn interval_of(input: u32, number: u64) -> u64 {
     let mut random = Random::numbered(number);
     let mut word: u64 = 0;
@@ -65,7 +68,8 @@ fn interval_of(input: u32, number: u64) -> u64 {
     word
 }
 
-/// The word of an input of this number in a row of intervals: false outside of them in the first of two rows, and true in the second.
+/// The word of an input of this number in a row of intervals: false outside of them in the first of
+/// two rows, and true in the second.
 fn interval_word(random: &mut Random, input: u32, row: usize) -> u64 {
     let row = row.saturating_sub(FIRST_INTERVAL);
     let inside = interval_of(input, row as u64 / 2);
@@ -114,7 +118,8 @@ fn random_word(random: &mut Random, row: usize) -> u64 {
     }
 }
 
-/// The word of an input of this number in a row, where there are so many before those of counterexamples. In these it is random.
+/// The word of an input of this number in a row, where there are so many before those of
+/// counterexamples. In these it is random.
 pub(crate) fn input_word(random: &mut Random, input: u32, row: usize, fixed: usize) -> u64 {
     if row < RANDOM || row >= fixed {
         return random_word(random, row);
@@ -128,7 +133,8 @@ pub(crate) fn input_word(random: &mut Random, input: u32, row: usize, fixed: usi
     }
 }
 
-/// How many random words are drawn for the word of an input in a row, where there are so many before those of counterexamples.
+/// How many random words are drawn for the word of an input in a row, where there are so many
+/// before those of counterexamples.
 pub(crate) fn draws(row: usize, fixed: usize) -> u32 {
     match row {
         3 | 5 => 2,

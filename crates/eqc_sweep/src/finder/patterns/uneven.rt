@@ -1,11 +1,12 @@
-//! Rows in which inputs are mostly as the ones before them, or mostly true: numbers in which carries go far.
+//! Rows in which inputs are mostly as the ones before them, or mostly true: numbers in which
+//! carries go far.
 
 use crate::finder::patterns::Patterns;
 use eqc_graph::{Graph, Node};
 use std::alloc::{AllocError, Global};
 
-/// So many kinds of rows there are: in each second one inputs are as the ones before them, and in the others true, but for one of 4, of
-/// 8, of 16 or of 32.
+/// So many kinds of rows there are: in each second one inputs are as the ones before them, and in
+/// the others true, but for one of 4, of 8, of 16 or of 32.
 const KINDS: usize = 4;
 
 impl Patterns {
