@@ -66,7 +66,7 @@ impl Forest {
     ///
     /// There may be 1 to 1,048,574 nodes, 1 to 1,048,576 cells of the operation cache and 1 to 64
     /// workers. All words and maps that the forest will have are made here. The error is
-    /// `AllocError` alone.
+    /// `Stop::Memory` alone.
     pub fn new(
         alloc: Global,
         vars: u16,
