@@ -10,7 +10,7 @@ ghost use Rattle.eqc_inside.specs.Inside.{HaveOneLiteral, KeepsMarks, TellEqual,
 use eqc_build::Steps;
 use eqc_compare::{Alike, is_marked};
 use eqc_pair::Pair;
-use eqc_sweep::{Comparison, Effort, Sweep};
+use eqc_sweep::{Effort, Sweep};
 use std::alloc::{AllocError, Global};
 use std::marker::Model;
 
@@ -197,22 +197,5 @@ impl<'a> Inside<'a> {
         let equal = outputs_of_one_literal(alloc, &self.steps, &self.literals, &alike.equal)?;
         let chosen = first_of_literal(alloc, &self.steps, &alike.chosen, &self.literals)?;
         Ok(Alike { equal, chosen })
-    }
-
-    /// Whether an output is found equal within so many conflicts, which are counted down. It may be
-    /// equal without.
-    pub(crate) fn is_equal(&mut self, output: usize, conflicts: &mut u64) -> bool
-        requires { output < length self.old.first.outputs }
-        ensures pair { self.new ≡ self.old }
-        ensures equal { IsTrue result → difference_at self.old output ≡ None }
-    {
-        let roots = self.steps.roots(output);
-        let x = literal_of(&self.literals, roots[0]);
-        let y = literal_of(&self.literals, roots[1]);
-        if x == NONE || y == NONE {
-            return false;
-        }
-        // Where memory is refused nothing is known.
-        matches!(self.sweep.equal(x, y, conflicts), Ok(Comparison::Equal))
     }
 }

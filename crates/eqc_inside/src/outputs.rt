@@ -85,6 +85,17 @@ fn mark_all(
     (count, used)
 }
 
+/// The pairs of outputs that aren't marked. Fails where memory is refused.
+fn unmarked(alloc: Global, alike: &Alike, some: &[Twins]) -> Result<Vec<Twins>, AllocError> {
+    let mut open = Vec::with_capacity(alloc, some.len())?;
+    for twins in some {
+        if !is_marked(&alike.equal, twins.place) {
+            open.push(*twins)?;
+        }
+    }
+    Ok(open)
+}
+
 impl<'a> Inside<'a> {
     /// The two literals of an output, where it isn't known to be equal and not seen to differ.
     fn open_twins(&mut self, alike: &Alike, output: usize) -> Option<Twins>
@@ -135,21 +146,6 @@ impl<'a> Inside<'a> {
         Ok((some, outputs))
     }
 
-    /// Asks about an output, and marks it where it is found equal. Whether it is.
-    fn ask_output(&mut self, alike: &mut Alike, output: usize, conflicts: &mut u64) -> bool
-        requires known { IsKnown self.old alike.old }
-        requires output { output < length self.old.first.outputs }
-        ensures pair { self.new ≡ self.old }
-        ensures known { IsKnown self.new alike.new }
-        ensures kept { KeepsMarks self.old alike.old.equal.items alike.new.equal.items }
-    {
-        if is_marked(&alike.equal, output) || !self.is_equal(output, conflicts) {
-            return false;
-        }
-        mark(alike, output);
-        true
-    }
-
     /// Asks about some outputs side by side, with so many conflicts each, and marks those that are
     /// found equal. Answers how many these are, and what it took.
     fn ask_side_by_side<R: Threads + Sync>(
@@ -171,11 +167,38 @@ impl<'a> Inside<'a> {
         mark_all(&self.steps, &self.sweep, &self.literals, &equal, alike)
     }
 
+    /// Asks about those of some outputs that aren't marked, one after the other, and marks those
+    /// that are found equal. Whether there are any. The conflicts that it took are counted down.
+    fn ask_in_turn<R: Threads + Sync>(
+        &mut self,
+        rt: &R,
+        alloc: Global,
+        alike: &mut Alike,
+        some: &[Twins],
+        conflicts: &mut u64,
+    ) -> bool
+        requires { IsKnown self.old alike.old }
+        ensures pair { self.new ≡ self.old }
+        ensures known { IsKnown self.new alike.new }
+        ensures kept { KeepsMarks self.old alike.old.equal.items alike.new.equal.items }
+    {
+        // Where memory is refused nothing is known.
+        let Ok(open) = unmarked(alloc, alike, some) else {
+            return false;
+        };
+        let Ok(equal) = self.sweep.equal_in_turn(rt, &open, conflicts) else {
+            return false;
+        };
+        let (count, _) = mark_all(&self.steps, &self.sweep, &self.literals, &equal, alike);
+        count > 0
+    }
+
     /// Asks about some outputs, first side by side and then one after the other, and marks those
     /// that are found equal. Whether there are any. The conflicts that it took are counted down.
     fn ask_some<R: Threads + Sync>(
         &mut self,
         rt: &R,
+        alloc: Global,
         alike: &mut Alike,
         some: &[Twins],
         conflicts: &mut u64,
@@ -192,13 +215,7 @@ impl<'a> Inside<'a> {
             *conflicts = conflicts.saturating_sub(used);
             found = count > 0;
         }
-        for twins in some {
-            let outputs = self.steps.pair().first().outputs().len();
-            if twins.place < outputs {
-                found |= self.ask_output(alike, twins.place, conflicts);
-            }
-        }
-        found
+        found | self.ask_in_turn(rt, alloc, alike, some, conflicts)
     }
 
     /// Searches for differences of the chosen outputs that are not marked, with so many conflicts
@@ -230,7 +247,7 @@ impl<'a> Inside<'a> {
             if some.is_empty() {
                 return found;
             }
-            found |= self.ask_some(rt, alike, &some, &mut left);
+            found |= self.ask_some(rt, alloc, alike, &some, &mut left);
             from = next;
         }
         found

@@ -31,6 +31,8 @@ enum Way {
     Copied,
     /// Of each pair of literals.
     Twins,
+    /// Of one pair after the other, with what those before it leave.
+    InTurn,
 }
 
 /// What is found: the graph, the literals that nodes have in it which are copied, what copying them
@@ -165,6 +167,24 @@ fn found_asking<R: Threads + Sync>(
     })
 }
 
+/// What is found where so many threads ask about one pair after the other.
+fn found_in_turn<R: Threads + Sync>(
+    rt: &R,
+    alloc: Global,
+    workers: u32,
+) -> Result<Found, AllocError> {
+    let mut made = new_sweep(alloc, Effort::none().by(workers))?;
+    let twins = make_twins(alloc, &mut made.sweep)?;
+    let mut conflicts = CONFLICTS * u64::from(PARITIES);
+    let equal = made.sweep.equal_in_turn(rt, &twins, &mut conflicts)?;
+    Ok(Found {
+        nodes: nodes_of(alloc, made.sweep.graph())?,
+        literals: Vec::new(alloc),
+        tally: made.sweep.tally(),
+        equal,
+    })
+}
+
 /// What is found by so many threads.
 fn found_by<R: Threads + Sync>(
     rt: &R,
@@ -175,6 +195,7 @@ fn found_by<R: Threads + Sync>(
     match way {
         Way::Copied => found_copying(rt, alloc, workers),
         Way::Twins => found_asking(rt, alloc, workers),
+        Way::InTurn => found_in_turn(rt, alloc, workers),
     }
 }
 
@@ -191,7 +212,11 @@ fn find_alike<R: Threads + Sync>(
 }
 
 /// How it is asked, and its name.
-static WAYS: &[(&str, Way)] = &[("copies", Way::Copied), ("twins", Way::Twins)];
+static WAYS: &[(&str, Way)] = &[
+    ("copies", Way::Copied),
+    ("twins", Way::Twins),
+    ("in turn", Way::InTurn),
+];
 
 /// How many threads are to find what one finds.
 static SEVERAL: &[u32] = &[2, 3, 4, 16];

@@ -286,4 +286,23 @@ impl Sweep {
     {
         self.finder.equal_among(rt, &self.graph, pairs, conflicts)
     }
+
+    /// Those of these pairs whose literals are found equal, in their order, where one is asked
+    /// about after the other, each with the conflicts that those before it left. Those that it took
+    /// are taken away, and at least one for each thousand literals that were visited. The threads
+    /// of the effort ask about as many pairs as they are at once, in vain where those before leave
+    /// less than it takes. What is found doesn't depend on how many there are. Fails where memory
+    /// is refused.
+    pub fn equal_in_turn<R: Threads + Sync>(
+        &mut self,
+        rt: &R,
+        pairs: &[Twins],
+        conflicts: &mut u64,
+    ) -> Result<Vec<Twins>, AllocError>
+        ensures unchanged { self.new ≡ self.old }
+        ensures equal { IfOk result (λ equal. All (IsTwin self.old) equal.items) }
+        ensures asked { IfOk result (λ equal. All (IsAsked pairs.now) equal.items) }
+    {
+        self.finder.equal_in_turn(rt, &self.graph, pairs, conflicts)
+    }
 }

@@ -47,6 +47,15 @@ const FIRST: u64 = 5_000;
 
 const HARDER: u64 = 8;
 
+/// No more is kept for a question than so many times what the last ones took, so many of which
+/// count: few take nearly all that they may.
+const MORE: u64 = 4;
+
+const LAST: u64 = 16;
+
+/// A thread is started for each so much work, which takes it a tenth of a millisecond.
+const THREAD: u64 = 2_000;
+
 /// So many questions about nodes of which something is doubted are remembered.
 const LATELY: u32 = 64;
 
@@ -72,6 +81,8 @@ pub(crate) struct Account {
     spent: u64,
     /// The most work of a question after which a node was found equal.
     hardest: u64,
+    /// The work of a question, as that of the last ones was.
+    usual: u64,
     /// What was spent in vain.
     vain: u64,
     rows: u32,
@@ -127,6 +138,7 @@ impl Account {
             conflicts: effort.conflicts.saturating_mul(AT_START),
             spent: 0,
             hardest: 0,
+            usual: effort.conflicts.saturating_mul(FIRST),
             vain: 0,
             rows: 0,
             found: 0,
@@ -223,7 +235,21 @@ impl Account {
         if gave_up {
             self.open = self.open.saturating_add(1);
         }
+        self.usual = (self.usual - self.usual / LAST).saturating_add(work / LAST);
         self.spend(work.saturating_add(QUESTION), !is_equal);
+    }
+
+    /// How much of what is left is kept for a question that may do so much work, as long as others
+    /// are asked beside it.
+    pub(crate) fn kept_for(&self, work: u64) -> u64 {
+        work.min(self.usual.saturating_mul(MORE))
+    }
+
+    /// By how many threads so many questions are asked, if they are as the last ones were. What is
+    /// found doesn't depend on it.
+    pub(crate) fn threads_for(&self, questions: usize) -> usize {
+        let work = self.usual.saturating_mul(questions as u64);
+        questions.min((work / THREAD) as usize)
     }
 
     /// What came of it so far.

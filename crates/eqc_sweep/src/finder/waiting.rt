@@ -16,9 +16,6 @@ const CHUNK: usize = 64;
 /// There are no more nodes than so many, so that each has its literals.
 const NODES: u32 = 1 << 30;
 
-/// So many questions are asked by each thread at least.
-const EACH: usize = 4;
-
 /// In place of a node where there is none.
 const NONE: u32 = u32::MAX;
 
@@ -129,7 +126,7 @@ impl Finder {
     }
 
     /// The next questions about nodes that wait, from a place on, and the place behind the last of
-    /// these. There are no more once these may spend all that is left. Fails where memory is
+    /// these. There are no more once all that is left is kept for these. Fails where memory is
     /// refused.
     fn questions(
         &mut self,
@@ -143,7 +140,7 @@ impl Finder {
                 return Ok((some, place));
             }
             if let Some(question) = self.question(graph, place) {
-                room = room.saturating_sub(question.given.work);
+                room = room.saturating_sub(self.account.kept_for(question.given.work));
                 some.push(question)?;
             }
         }
@@ -187,19 +184,24 @@ impl Finder {
         Ok(())
     }
 
-    /// The answers to questions that are asked side by side, in the order of these. Fails where
-    /// memory is refused.
+    /// How many threads may ask.
+    pub(crate) fn threads(&self) -> usize {
+        self.searches.len()
+    }
+
+    /// The answers to questions that are asked side by side by so many threads, if there are as
+    /// many, in the order of these. Fails where memory is refused.
     pub(crate) fn answers<R: Threads + Sync>(
         &mut self,
         rt: &R,
         graph: &Graph,
         questions: &[Question],
+        threads: usize,
     ) -> Result<Vec<Option<Answered>>, AllocError>
         ensures answers { IfOk result (λ answers. ArePlacedIn graph.now answers.items) }
     {
         let mut searches = std::mem::replace(&mut self.searches, Vec::new(self.alloc));
-        // To start a thread takes as long as some easy questions.
-        let idle = searches.split_off((questions.len() / EACH).max(1).min(searches.len()))?;
+        let idle = searches.split_off(threads.max(1).min(searches.len()))?;
         let all = ask_all(rt, self.alloc, graph, questions, searches)?;
         let mut answers = no_answers(self.alloc, graph, questions.len())?;
         let mut failed = false;
@@ -225,7 +227,8 @@ impl Finder {
         requires merges { All (IsMerge graph.now) merges.old.items }
         ensures merges { All (IsMerge graph.now) merges.new.items }
     {
-        let answers = self.answers(rt, graph, questions)?;
+        let threads = self.account.threads_for(questions.len());
+        let answers = self.answers(rt, graph, questions, threads)?;
         for answered in &answers {
             if let Some(answered) = answered {
                 self.take(graph, answered, merges)?;
