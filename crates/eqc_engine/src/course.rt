@@ -359,6 +359,49 @@ fn by_sums<R: Threads + Wait + Sync, P: Progress<R> + Sync>(
     }
 }
 
+/// The report where words inside the netlists are shown equal by what they add up to, and what
+/// depends on them is swept anew in a round, with one of two signals in place of both. The outputs
+/// found equal so become known.
+fn by_inner_sums<R: Threads + Wait + Sync, P: Progress<R> + Sync>(
+    comparison: &Comparison<'_, R, P>,
+    inside: &mut Inside<'_>,
+    alike: &mut Alike,
+    rounds: &Rounds,
+) -> Result<Report, Stop>
+    requires inside { inside.old ≡ comparison.now.pair.now }
+    requires known { IsKnown comparison.now.pair.now alike.old }
+    ensures inside { inside.new ≡ inside.old }
+    ensures known { IsKnown comparison.now.pair.now alike.new }
+    ensures kept { KeepsMarks comparison.now.pair.now alike.old.equal.items alike.new.equal.items }
+    ensures report { IfOk result (λ report. report_of report ≡ pair_report comparison.now.options.now.every comparison.now.pair.now) }
+{
+    let Comparison {
+        rt,
+        alloc,
+        pair,
+        options,
+        watch,
+    } = *comparison;
+    let conflicts = u64::from(options.conflicts);
+    if !matches!(
+        inside.add_up_inside(rt, alloc, alike, conflicts, watch),
+        Ok(true)
+    ) {
+        return Err(Stop::NodeLimit);
+    }
+    watch.stage(rt, Stage::Sweeping);
+    // Where memory is refused the graph is as it was.
+    let _ = inside.begin_again(rt, alloc, alike, rounds, watch);
+    if let Ok(more) = inside.known(alloc, alike) {
+        *alike = more;
+    }
+    ask_while_found(comparison, inside, alike);
+    match known_outcome(alloc, pair, &alike.equal) {
+        Some(outcome) => found_report(alloc, pair, options.every, outcome),
+        None => Err(Stop::NodeLimit),
+    }
+}
+
 /// Sweeps in rounds that take no longer than diagrams of one worker, where there are few inputs.
 /// Answers whether outputs are left of so many fewer nodes that longer rounds come before such
 /// diagrams.
@@ -487,6 +530,10 @@ fn by_sweeping<R: Threads + Wait + Sync, P: Progress<R> + Sync>(
             Err(Stop::NodeLimit) => {}
             report => return report,
         }
+    }
+    match by_inner_sums(comparison, inside, alike, rounds) {
+        Err(Stop::NodeLimit) => {}
+        report => return report,
     }
     by_longer_searches(comparison, inside, alike, left)
 }

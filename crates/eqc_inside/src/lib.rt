@@ -17,6 +17,7 @@
 mod adding;
 mod asking;
 mod entering;
+mod inner;
 mod inside;
 mod outputs;
 mod rounds;
