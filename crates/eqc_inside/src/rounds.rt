@@ -135,6 +135,7 @@ impl Rounds {
             .by(self.workers)
             .over(self.inputs)
             .in_two_ways()
+            .deciding_needed()
     }
 
     /// From now on rounds may cost so much. Where the last one gave no question up there is none.

@@ -4,7 +4,7 @@
 use crate::ends::same;
 use crate::graphs::{ADDER, NO_CARRY, NO_MAJORITY, SUM, X, Y, Z, graph_of, value_of, values_of};
 use eqc_graph::{Graph, Node};
-use eqc_search::{Answer, Budget, Search};
+use eqc_search::{Answer, Budget, Decides, Search};
 use std::alloc::{AllocError, Global};
 use std::process::Abort;
 
@@ -73,6 +73,7 @@ const MUCH: Budget = Budget {
     work: 1_000_000_000,
     growth: 8,
     ordered_from: u64::MAX,
+    decides: Decides::NeededAndMet,
 };
 
 /// Whether all assumptions are true under an assignment of nodes' values, in which the others are
@@ -235,7 +236,7 @@ fn what_was_learned_helps_with_the_next_question(rt: HostRuntime) -> Result<(), 
 }
 
 /// The values of the first two variables in what a search finds where not both may be true, and a
-/// decision on each begins with this value.
+/// decision on each begins with this value. What it leaves open is false.
 fn preferred(
     graph: &Graph,
     search: &mut Search,
@@ -261,9 +262,10 @@ fn preferred(
 fn a_decision_begins_with_the_value_that_is_preferred(rt: HostRuntime) -> Result<(), AllocError> {
     let graph = graph_of(&rt, ADDER)?;
     let mut search = Search::new(rt.alloc());
-    for wanted in [(false, false), (true, false), (false, true)] {
-        let found = preferred(&graph, &mut search, wanted.0, wanted.1);
-        same(&rt, found, Ok(wanted), "not both");
+    // The second one is decided first. The other one follows from it, or isn't needed.
+    for (x, y) in [(false, false), (true, false), (true, true), (false, true)] {
+        let found = preferred(&graph, &mut search, x, y);
+        same(&rt, found, Ok((false, y)), "not both");
     }
     Ok(())
 }

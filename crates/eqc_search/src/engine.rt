@@ -2,9 +2,9 @@
 use crate::conflict::Analysis;
 use crate::decisions::Decisions;
 use crate::learned::Learned;
-use crate::reads::{literal_of, node_at};
+use crate::reads::{is_gate, literal_of, node_at};
 use crate::restarts::Restarts;
-use crate::search::Budget;
+use crate::search::{Budget, Decides};
 use crate::values::{Reason, Value, Values};
 use crate::window::Window;
 use eqc_graph::{Graph, Node, node_of};
@@ -44,6 +44,7 @@ pub(crate) struct Engine {
     /// So many gates the window may have, and so many times as many when it is made larger.
     aim: u32,
     growth: u32,
+    decides: Decides,
 }
 
 impl Engine {
@@ -59,6 +60,7 @@ impl Engine {
             work: 0,
             aim: FIRST_WINDOW,
             growth: LEAST_GROWTH,
+            decides: Decides::All,
         }
     }
 
@@ -123,6 +125,7 @@ impl Engine {
         self.grow(graph)?;
         self.restarts = self.restarts.again(budget.ordered_from);
         self.growth = budget.growth.max(LEAST_GROWTH);
+        self.decides = budget.decides;
         for literal in assumptions {
             self.window.enter(graph, node_of(*literal))?;
         }
@@ -158,15 +161,44 @@ impl Engine {
         self.values.end_above(level);
     }
 
+    /// Whether a node is free, and one of those that the question decides.
+    fn may_be_decided(&mut self, node: u32) -> bool {
+        if self.values.value(literal_of(node, true)) != Value::Free {
+            return false;
+        }
+        match self.decides {
+            Decides::All => true,
+            Decides::NeededAndMet => self.decisions.stamp(node) > 0 || self.is_needed(node),
+            Decides::Needed => self.is_needed(node),
+        }
+    }
+
     /// The node to be decided next, if there is one.
     fn next_decision(&mut self) -> Option<u32> {
         for _ in 0..u32::MAX {
             let node = self.decisions.pop(&self.window)?;
-            if self.values.value(literal_of(node, true)) == Value::Free {
+            if self.may_be_decided(node) {
                 return Some(node);
             }
         }
         None
+    }
+
+    /// Whether operands are decided also where a gate doesn't wait for them.
+    #[inline(always)]
+    pub(crate) fn decides_all(&self) -> bool {
+        matches!(self.decides, Decides::All)
+    }
+
+    /// Whether a gate that isn't in the window has a value.
+    fn is_open(&self, graph: &Graph) -> bool {
+        for place in 0..self.values.len() {
+            let node = node_of(self.values.at(place));
+            if !self.window.is_gate(node) && is_gate(graph, node) {
+                return true;
+            }
+        }
+        false
     }
 
     /// Takes back all decisions, and drops learned clauses if there are too many.
@@ -185,7 +217,7 @@ impl Engine {
 
     /// Goes on where all that follows is there: a restart, a decision, or a larger window. Says
     /// whether there was something to do. If not, all gates that have a value have it from their
-    /// operands.
+    /// operands, and so from inputs that have one.
     pub(crate) fn go_on(&mut self, graph: &Graph) -> Result<bool, AllocError> {
         if self.restarts.is_due() {
             self.restart()?;
@@ -196,7 +228,7 @@ impl Engine {
             self.values.decide(literal)?;
             return Ok(true);
         }
-        if !self.window.can_expand() {
+        if !self.window.can_expand() || !(self.decides_all() || self.is_open(graph)) {
             return Ok(false);
         }
         self.back_to(0);

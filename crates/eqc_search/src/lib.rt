@@ -31,4 +31,4 @@ mod search;
 mod values;
 mod window;
 
-pub use search::{Answer, Budget, Search};
+pub use search::{Answer, Budget, Decides, Search};

@@ -86,8 +86,7 @@ impl Engine {
         self.visit();
         match node_at(graph, node) {
             Node::And(a, b) => {
-                self.offer(a);
-                self.offer(b);
+                self.offer_each(a, b);
                 if literal == literal_of(node, true) {
                     let conflict = self.imply(a, Reason::Gate { node, side: 0 });
                     if conflict.is_some() {
@@ -95,21 +94,38 @@ impl Engine {
                     }
                     return self.imply(b, Reason::Gate { node, side: 1 });
                 }
-                let reason = Reason::Gate { node, side: 2 };
-                if self.values.value(a) == Value::True {
-                    return self.imply(b ^ 1, reason);
-                }
-                if self.values.value(b) == Value::True {
-                    return self.imply(a ^ 1, reason);
-                }
-                None
+                self.visit_false_and(node, a, b)
             }
             Node::Xor(a, b) => {
-                self.offer(a);
-                self.offer(b);
+                self.offer_each(a, b);
+                self.offer_both(a, b);
                 self.visit_xor(node, a, b)
             }
             Node::Constant | Node::Input(_) => None,
+        }
+    }
+
+    /// Makes true what follows for the operands of an and that is false. Where one of them is
+    /// false, nothing does, and the other one needs no value.
+    fn visit_false_and(&mut self, node: u32, a: u32, b: u32) -> Option<Reason> {
+        let reason = Reason::Gate { node, side: 2 };
+        if self.values.value(a) == Value::True {
+            return self.imply(b ^ 1, reason);
+        }
+        if self.values.value(b) == Value::True {
+            return self.imply(a ^ 1, reason);
+        }
+        self.offer_both(a, b);
+        None
+    }
+
+    /// Lets the node of each of two literals be decided that is free, where all operands are
+    /// decided.
+    #[inline(always)]
+    fn offer_each(&mut self, a: u32, b: u32) {
+        if self.decides_all() {
+            self.offer(a);
+            self.offer(b);
         }
     }
 
@@ -117,9 +133,39 @@ impl Engine {
     #[inline(always)]
     fn offer(&mut self, literal: u32) {
         if self.values.value(literal) == Value::Free {
-            let node = node_of(literal);
-            self.decisions.insert(node, &self.window);
+            self.decisions.insert(node_of(literal), &self.window);
         }
+    }
+
+    /// Lets the nodes of two literals be decided if both are free. Where one has a value, the other
+    /// follows, or doesn't matter.
+    #[inline(always)]
+    fn offer_both(&mut self, a: u32, b: u32) {
+        if self.values.value(a) == Value::Free && self.values.value(b) == Value::Free {
+            self.decisions.insert(node_of(a), &self.window);
+            self.decisions.insert(node_of(b), &self.window);
+        }
+    }
+
+    /// Whether a gate that has a value has it from no operand yet, where this node, which is free,
+    /// is one of them.
+    pub(crate) fn is_needed(&mut self, node: u32) -> bool {
+        let mut at = self.window.first_fanout(node);
+        for _ in 0..self.window.fanouts() {
+            if at == NONE {
+                return false;
+            }
+            self.visit();
+            let fanout = self.window.fanout(at);
+            let gate = literal_of(fanout.gate(), true);
+            if self.values.value(gate) != Value::Free
+                && self.values.value(fanout.other) == Value::Free
+            {
+                return true;
+            }
+            at = fanout.next;
+        }
+        false
     }
 
     /// Makes true what follows for an exclusive or, where one of three values is missing.

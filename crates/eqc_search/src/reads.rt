@@ -46,3 +46,11 @@ pub(crate) fn node_at(graph: &Graph, k: u32) -> Node {
         Node::Constant
     }
 }
+
+/// Whether the node of this number is a gate.
+pub(crate) fn is_gate(graph: &Graph, k: u32) -> bool {
+    match node_at(graph, k) {
+        Node::And(_, _) | Node::Xor(_, _) => true,
+        Node::Constant | Node::Input(_) => false,
+    }
+}

@@ -35,6 +35,20 @@ impl Answer {
     }
 }
 
+/// Which nodes a question decides. A gate waits for its operands where it has a value that none of
+/// them gives it yet.
+#[derive(Clone, Copy, PartialEq, Eq, Debug)]
+pub enum Decides {
+    /// All operands of gates that have a value, and all nodes that were in a conflict. The question
+    /// is satisfied once all gates below it have their values from their operands.
+    All,
+    /// Operands that a gate waits for, and all nodes that were in a conflict. It is satisfied once
+    /// no gate waits.
+    NeededAndMet,
+    /// Operands that a gate waits for alone.
+    Needed,
+}
+
 /// What a search may spend. What was spent is taken away.
 #[derive(Clone, Copy, PartialEq, Eq, Debug)]
 pub struct Budget {
@@ -51,6 +65,7 @@ pub struct Budget {
     /// From so many conflicts on, the nodes of each are noted in the order in which they last were
     /// in one, and before that as they are met.
     pub ordered_from: u64,
+    pub decides: Decides,
 }
 
 /// A search, with the memory that it needs for graphs of the largest size that it met. Contracts

@@ -20,6 +20,8 @@ pub struct Effort {
     pub(crate) workers: u32,
     /// Whether hard questions may be asked in a second way.
     pub(crate) orders: bool,
+    /// Whether questions decide only nodes that a gate waits for.
+    pub(crate) decides_needed: bool,
     /// Whether there are so many inputs that more patterns are simulated.
     pub(crate) has_many_inputs: bool,
 }
@@ -36,6 +38,7 @@ impl Effort {
             work: 0,
             workers: 0,
             orders: false,
+            decides_needed: false,
             has_many_inputs: false,
         }
     }
@@ -53,6 +56,7 @@ impl Effort {
             work,
             workers: 1,
             orders: false,
+            decides_needed: false,
             has_many_inputs: false,
         }
     }
@@ -63,6 +67,15 @@ impl Effort {
     pub fn in_two_ways(self) -> Effort {
         Effort {
             orders: true,
+            ..self
+        }
+    }
+
+    /// The same where questions decide only nodes that a gate waits for, which has no value from
+    /// its operands yet. More is found equal so, in less time.
+    pub fn deciding_needed(self) -> Effort {
+        Effort {
+            decides_needed: true,
             ..self
         }
     }

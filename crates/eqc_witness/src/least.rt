@@ -12,7 +12,7 @@ use crate::cone::Cone;
 use crate::target::{Hints, Target};
 use crate::trials::{Trials, is_less};
 use eqc_graph::Graph;
-use eqc_search::{Budget, Search};
+use eqc_search::{Budget, Decides, Search};
 use std::alloc::{AllocError, Global};
 
 /// Literals that may be visited for each conflict, and conflicts' worth of them that there are
@@ -51,6 +51,7 @@ fn budget_of(conflicts: u64, cone: &Cone) -> Budget {
         work: u64::MAX,
         growth: GROWTH,
         ordered_from: u64::MAX,
+        decides: Decides::NeededAndMet,
     }
 }
 

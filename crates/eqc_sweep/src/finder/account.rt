@@ -3,7 +3,7 @@ ghost use Rattle.std.specs.Prelude.{◌<◌};
 
 use crate::effort::{Effort, Tally};
 use crate::finder::hard::Hard;
-use eqc_search::{Answer, Budget};
+use eqc_search::{Answer, Budget, Decides};
 
 /// Conflicts that there are at the start, in questions that take all that they may, and what each
 /// question adds.
@@ -96,6 +96,7 @@ pub(crate) fn budget_of(conflicts: u64, work: u64) -> Budget {
         work,
         growth: GROWTH_FOR_OUTPUTS,
         ordered_from: u64::MAX,
+        decides: Decides::NeededAndMet,
     }
 }
 
@@ -196,6 +197,11 @@ impl Account {
             work: self.left(nodes).min(doubted(most, doubt)),
             growth: GROWTH,
             ordered_from: self.hard.ordered_from(),
+            decides: if self.effort.decides_needed {
+                Decides::Needed
+            } else {
+                Decides::All
+            },
         }
     }
 
