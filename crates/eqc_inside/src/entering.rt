@@ -289,6 +289,7 @@ impl<'a> Inside<'a> {
         let work = rounds.in_proportion(work_for(self.sweep.graph().len()));
         self.work = work.saturating_sub(seeing).max(work / PART);
     }
+
     /// Enters anew what the outputs need that aren't marked, where more is known of the pair than
     /// before, and sweeps it in a first round. The watch is told of each node that is swept. Fails
     /// where memory is refused: all is as it was then.

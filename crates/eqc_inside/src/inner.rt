@@ -105,26 +105,35 @@ fn is_shown(
     Ok(false)
 }
 
+/// In what it is looked for words: in what these outputs of a pair are made of.
+#[derive(Clone, Copy)]
+struct Look<'a> {
+    alloc: Global,
+    steps: &'a Steps<'a>,
+    outputs: &'a [usize],
+    conflicts: u64,
+}
+
 /// What stands for the literals of steps since words that look alike are shown equal, one by one,
 /// until too many aren't: nothing where none is. The watch is told of each word. Fails where memory
 /// is refused.
 fn shown_of<R, P: Progress<R>>(
     rt: &R,
-    alloc: Global,
+    look: &Look<'_>,
     graph: &Graph,
     literals: &[Option<u32>],
     words: &[Lookalikes],
-    limits: Limits,
     watch: &P,
 ) -> Result<Option<Vec<Option<u32>>>, AllocError>
     ensures { (p : PairOf) → AreLiterals p graph.now literals.now → IfOk result (λ found. IfSome found (λ shown. TellEqual p shown.items)) }
 {
-    let mut shown = vec![in alloc; None; literals.len()]?;
+    let limits = limits_in(graph.len(), look.conflicts);
+    let mut shown = vec![in look.alloc; None; literals.len()]?;
     let mut some = false;
     let mut failed = 0u32;
     'words: for k in 0..words.len() {
         watch.step(rt, k, words.len());
-        if is_shown(alloc, graph, &words[k], limits)? {
+        if is_shown(look.alloc, graph, &words[k], limits)? {
             note_word(graph, literals, &mut shown, &words[k]);
             some = true;
         } else {
@@ -137,51 +146,46 @@ fn shown_of<R, P: Progress<R>>(
     Ok(if some { Some(shown) } else { None })
 }
 
-/// What stands for literals of steps since words of signals that these outputs depend on are shown
+/// What stands for literals of steps since words of signals that the outputs depend on are shown
 /// equal, in a graph that the marked steps enter.
 fn shown_in<R, P: Progress<R>>(
     rt: &R,
-    alloc: Global,
-    steps: &Steps<'_>,
-    outputs: &[usize],
+    look: &Look<'_>,
     marks: &[bool],
     plain: &mut Sweep,
-    conflicts: u64,
     watch: &P,
 ) -> Result<Option<Vec<Option<u32>>>, AllocError>
-    requires closed { AreClosed steps.now marks.now }
-    requires outputs { All (λ o. o < length steps.now.pair.first.outputs) outputs.now }
-    ensures { IfOk result (λ found. IfSome found (λ shown. TellEqual steps.now.pair shown.items)) }
+    requires closed { AreClosed look.now.steps.now marks.now }
+    requires outputs { All (λ o. o < length look.now.steps.now.pair.first.outputs) look.now.outputs.now }
+    ensures { IfOk result (λ found. IfSome found (λ shown. TellEqual look.now.steps.now.pair shown.items)) }
 {
     watch.stage(rt, Stage::Sweeping);
-    let literals = entered(rt, alloc, steps, marks, plain, watch)?;
+    let literals = entered(rt, look.alloc, look.steps, marks, plain, watch)?;
     let graph = plain.graph();
-    let limits = limits_in(graph.len(), conflicts);
-    let Literals { firsts, seconds } = literals_of(alloc, steps, &literals, outputs)?;
-    let words = find_lookalikes(alloc, graph, &firsts, &seconds, limits)?;
+    let limits = limits_in(graph.len(), look.conflicts);
+    let Literals { firsts, seconds } =
+        literals_of(look.alloc, look.steps, &literals, look.outputs)?;
+    let words = find_lookalikes(look.alloc, graph, &firsts, &seconds, limits)?;
     watch.stage(rt, Stage::Adding);
-    shown_of(rt, alloc, graph, &literals, &words, limits, watch)
+    shown_of(rt, look, graph, &literals, &words, watch)
 }
 
 /// The same in a graph that is let go in one exit, for its proof's sake.
 fn shown_below<R, P: Progress<R>>(
     rt: &R,
-    alloc: Global,
-    steps: &Steps<'_>,
-    outputs: &[usize],
-    conflicts: u64,
+    look: &Look<'_>,
     watch: &P,
 ) -> Result<Option<Vec<Option<u32>>>, AllocError>
-    requires { All (λ o. o < length steps.now.pair.first.outputs) outputs.now }
-    ensures { IfOk result (λ found. IfSome found (λ shown. TellEqual steps.now.pair shown.items)) }
+    requires { All (λ o. o < length look.now.steps.now.pair.first.outputs) look.now.outputs.now }
+    ensures { IfOk result (λ found. IfSome found (λ shown. TellEqual look.now.steps.now.pair shown.items)) }
 {
-    let wanted = vec![in alloc; true; steps.pair().first().outputs().len()]?;
-    let marks = needed_within(alloc, steps, &wanted, CHARACTERS)?;
+    let count = look.steps.pair().first().outputs().len();
+    let wanted = vec![in look.alloc; true; count]?;
+    let marks = needed_within(look.alloc, look.steps, &wanted, CHARACTERS)?;
     let mut plain = Owned {
-        sweep: Sweep::new(alloc, Effort::none())?,
+        sweep: Sweep::new(look.alloc, Effort::none())?,
     };
-    let sweep = &mut plain.sweep;
-    shown_in(rt, alloc, steps, outputs, &marks, sweep, conflicts, watch)
+    shown_in(rt, look, &marks, &mut plain.sweep, watch)
 }
 
 /// All outputs of so many. Of those that are known to be equal too there may be sums whose carries
@@ -250,7 +254,13 @@ impl<'a> Inside<'a> {
         let mut some = false;
         'looks: for _ in 0..LOOKS {
             let steps = Steps::of(alloc, pair, chosen.clone()?);
-            let Some(shown) = shown_below(rt, alloc, &steps, &outputs, conflicts, watch)? else {
+            let look = Look {
+                alloc,
+                steps: &steps,
+                outputs: &outputs,
+                conflicts,
+            };
+            let Some(shown) = shown_below(rt, &look, watch)? else {
                 break;
             };
             chosen = first_of_literal(alloc, &steps, &chosen, &shown)?;

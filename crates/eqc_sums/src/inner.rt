@@ -6,17 +6,13 @@
 //! them counts: the sum of an adder counts as its literals do, and its carry in the next column.
 
 use crate::adders::{Adders, Block, is_degenerate};
-use crate::chains::copy_with_chains;
 use crate::frames::{Frame, Frames};
+use crate::shown::{CHEAP, copies, copy_both};
 use crate::sums::{Limits, Sums};
 use crate::words::MOST;
 use eqc_graph::{Graph, Node, is_negated, negated_if, node_of};
-use eqc_sweep::{Effort, Sweep, below, copied};
+use eqc_sweep::{Effort, Sweep, below};
 use std::alloc::{AllocError, Global};
-
-/// The most conflicts of a question about a node that enters the graph in which it is looked for
-/// words.
-const CHEAP: u64 = 30;
 
 /// Two words that look alike, the lowest literal first, where false stands in both in columns of
 /// which nothing is to be shown.
@@ -352,15 +348,30 @@ fn originals(alloc: Global, origins: &[u32], literals: &[u32]) -> Result<Vec<u32
     Ok(all)
 }
 
-/// The copies of literals that have one.
-fn copies(alloc: Global, table: &[Option<u32>], literals: &[u32]) -> Result<Vec<u32>, AllocError> {
-    let mut all = Vec::with_capacity(alloc, literals.len())?;
-    for literal in literals {
-        if let Some(copy) = copied(table, *literal) {
-            all.push(copy)?;
-        }
+/// Words that look alike in a graph that has copies of nodes, as literals of the graph of these. It
+/// stands apart for its proof's sake: where a graph is let go in each exit that takes many times
+/// longer.
+fn lookalikes_in(
+    alloc: Global,
+    table: &[Option<u32>],
+    firsts: &[u32],
+    seconds: &[u32],
+    sums: &mut Sums,
+    limits: Limits,
+) -> Result<Vec<Lookalikes>, AllocError> {
+    let origins = origins(alloc, table, sums.sweep().graph().len())?;
+    sums.find_adders(limits)?;
+    sums.find_carries()?;
+    let one = copies(alloc, table, firsts)?;
+    let other = copies(alloc, table, seconds)?;
+    let mut words = Vec::new(alloc);
+    for word in &sums.inner_words(&one, &other)? {
+        words.push(Lookalikes {
+            firsts: originals(alloc, &origins, &word.firsts)?,
+            seconds: originals(alloc, &origins, &word.seconds)?,
+        })?;
     }
-    Ok(all)
+    Ok(words)
 }
 
 /// Words inside two netlists that look alike, as literals of the graph that has both: of what these
@@ -375,24 +386,7 @@ pub fn find_lookalikes(
     limits: Limits,
 ) -> Result<Vec<Lookalikes>, AllocError> {
     let mut sweep = Sweep::new(alloc, Effort::of(CHEAP, limits.work))?;
-    let mut asked = Vec::new(alloc);
-    asked.extend_from_slice(firsts)?;
-    asked.extend_from_slice(seconds)?;
-    let table = copy_with_chains(alloc, graph, &asked, &mut sweep, false)?;
-    sweep.ask_no_more();
-    let nodes = sweep.graph().len();
+    let table = copy_both(alloc, graph, firsts, seconds, &mut sweep, false)?;
     let mut sums = Sums::new(alloc, sweep);
-    sums.find_adders(limits)?;
-    sums.find_carries()?;
-    let one = copies(alloc, &table, firsts)?;
-    let other = copies(alloc, &table, seconds)?;
-    let origins = origins(alloc, &table, nodes)?;
-    let mut words = Vec::new(alloc);
-    for word in &sums.inner_words(&one, &other)? {
-        words.push(Lookalikes {
-            firsts: originals(alloc, &origins, &word.firsts)?,
-            seconds: originals(alloc, &origins, &word.seconds)?,
-        })?;
-    }
-    Ok(words)
+    lookalikes_in(alloc, &table, firsts, seconds, &mut sums, limits)
 }

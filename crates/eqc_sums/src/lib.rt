@@ -16,9 +16,11 @@
 //! - `chains`, a copy of a graph in which chains of carries stand in place of trees of prefixes
 //!   (`specs/Chains.antt`), and `leaves`, what is left of exclusive ors in which something cancels
 //!   out
+//! - `shown`, words shown equal in a copy of what they are made of
 //! - `support` and `adders`, what is found in the graph; `choice`, which step comes next;
 //!   `columns`, what a word comes to, added up as another one does it, with the literals of one
-//!   `column` and what is `chosen` of them: of these nothing is believed
+//!   `column` and what is `chosen` of them; `inner`, words that look alike, by the `frames` in
+//!   which their nodes count: of these nothing is believed
 #![tactic(auto)]
 
 mod adders;
