@@ -14,14 +14,15 @@
 //! | 9 | long rounds of sweeping, as long as they find nodes equal | `sweep_more` | the same as 3 |
 //! | 10 | short searches | `by_search` | the same as 4 |
 //! | 11 | diagrams by all workers, and where these don't fit by one of them | `in_room` | the outputs left, where they fit |
-//! | 12 | a longer search that refutes | `ask_outputs` | outputs that are found equal |
-//! | 13 | longer searches | `by_search` | the same as 4 |
-//! | 14 | diagrams by all workers once more, where 12 found some outputs equal | `in_room` | the outputs left, where they fit |
+//! | 12 | words inside that add up the same, and a round of sweeping over them | `by_inner_sums` | the same as 3 |
+//! | 13 | a longer search that refutes | `ask_outputs` | outputs that are found equal |
+//! | 14 | longer searches | `by_search` | the same as 4 |
+//! | 15 | diagrams by all workers once more, where 13 found some outputs equal | `in_room` | the outputs left, where they fit |
 //!
 //! `known_by_structure` has 1, `decide_pair` begins with 2, `behind_first` with 3, and
 //! `by_sweeping` goes on from there: `by_short_rounds` has 3 and 4, `by_sums` 5, `by_one` 7 and 8,
-//! `by_long_rounds` 9 to 11, and `by_longer_searches` the others. With few nodes or without
-//! conflicts 11 follows 2, and nothing else does.
+//! `by_long_rounds` 9 to 11, and `by_longer_searches` 13 to 15. With few nodes or without conflicts
+//! 11 follows 2, and nothing else does.
 ghost use Rattle.std.specs.Prelude.{◌≡◌, None, length, IfOk, IfErr};
 ghost use Rattle.eqc_compare.specs.Alike.{IsKnown};
 ghost use Rattle.eqc_inside.specs.Inside.{KeepsMarks};
@@ -328,6 +329,26 @@ fn by_short_rounds<R: Threads + Wait + Sync, P: Progress<R> + Sync>(
     by_search(comparison, inside, alike, few_conflicts(comparison), left)
 }
 
+/// The report where all that is to be told is known: `NodeLimit` where it isn't.
+fn of_known<R: Threads + Wait + Sync, P: Progress<R> + Sync>(
+    comparison: &Comparison<'_, R, P>,
+    alike: &Alike,
+) -> Result<Report, Stop>
+    requires { IsKnown comparison.now.pair.now alike.now }
+    ensures { IfOk result (λ report. report_of report ≡ pair_report comparison.now.options.now.every comparison.now.pair.now) }
+{
+    let Comparison {
+        alloc,
+        pair,
+        options,
+        ..
+    } = *comparison;
+    match known_outcome(alloc, pair, &alike.equal) {
+        Some(outcome) => found_report(alloc, pair, options.every, outcome),
+        None => Err(Stop::NodeLimit),
+    }
+}
+
 /// The report where words of outputs are shown equal by what they add up to, which become known.
 fn by_sums<R: Threads + Wait + Sync, P: Progress<R> + Sync>(
     comparison: &Comparison<'_, R, P>,
@@ -353,10 +374,7 @@ fn by_sums<R: Threads + Wait + Sync, P: Progress<R> + Sync>(
         // Where memory is refused the run goes on with what was shown before.
         let _ = inside.add_up(rt, alloc, alike, conflicts, watch);
     }
-    match known_outcome(alloc, pair, &alike.equal) {
-        Some(outcome) => found_report(alloc, pair, options.every, outcome),
-        None => Err(Stop::NodeLimit),
-    }
+    of_known(comparison, alike)
 }
 
 /// The report where words inside the netlists are shown equal by what they add up to, and what
@@ -378,15 +396,13 @@ fn by_inner_sums<R: Threads + Wait + Sync, P: Progress<R> + Sync>(
     let Comparison {
         rt,
         alloc,
-        pair,
         options,
         watch,
+        ..
     } = *comparison;
     let conflicts = u64::from(options.conflicts);
-    if !matches!(
-        inside.add_up_inside(rt, alloc, alike, conflicts, watch),
-        Ok(true)
-    ) {
+    let shown = inside.add_up_inside(rt, alloc, alike, conflicts, watch);
+    if !matches!(shown, Ok(true)) {
         return Err(Stop::NodeLimit);
     }
     watch.stage(rt, Stage::Sweeping);
@@ -396,10 +412,7 @@ fn by_inner_sums<R: Threads + Wait + Sync, P: Progress<R> + Sync>(
         *alike = more;
     }
     ask_while_found(comparison, inside, alike);
-    match known_outcome(alloc, pair, &alike.equal) {
-        Some(outcome) => found_report(alloc, pair, options.every, outcome),
-        None => Err(Stop::NodeLimit),
-    }
+    of_known(comparison, alike)
 }
 
 /// Sweeps in rounds that take no longer than diagrams of one worker, where there are few inputs.
@@ -485,7 +498,8 @@ fn by_longer_searches<R: Threads + Wait + Sync, P: Progress<R> + Sync>(
 }
 
 /// The report over what sweeping finds equal, which becomes known: by short rounds, by words that
-/// add up the same, in a larger room, by one worker, by long rounds, and by longer searches.
+/// add up the same, in a larger room, by one worker, by long rounds, by words inside that add up
+/// the same, and by longer searches.
 fn by_sweeping<R: Threads + Wait + Sync, P: Progress<R> + Sync>(
     comparison: &Comparison<'_, R, P>,
     inside: &mut Inside<'_>,

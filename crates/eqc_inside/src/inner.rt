@@ -132,15 +132,15 @@ fn shown_of<R, P: Progress<R>>(
     let mut some = false;
     let mut failed = 0u32;
     'words: for k in 0..words.len() {
+        if failed >= MOST_FAILED {
+            break;
+        }
         watch.step(rt, k, words.len());
         if is_shown(look.alloc, graph, &words[k], limits)? {
             note_word(graph, literals, &mut shown, &words[k]);
             some = true;
         } else {
             failed = failed.saturating_add(1);
-        }
-        if failed >= MOST_FAILED {
-            break;
         }
     }
     Ok(if some { Some(shown) } else { None })
@@ -163,8 +163,12 @@ fn shown_in<R, P: Progress<R>>(
     let literals = entered(rt, look.alloc, look.steps, marks, plain, watch)?;
     let graph = plain.graph();
     let limits = limits_in(graph.len(), look.conflicts);
-    let Literals { firsts, seconds } =
-        literals_of(look.alloc, look.steps, &literals, look.outputs)?;
+    let Literals { firsts, seconds } = literals_of(
+        look.alloc,
+        look.steps,
+        &literals,
+        look.outputs,
+    )?;
     let words = find_lookalikes(look.alloc, graph, &firsts, &seconds, limits)?;
     watch.stage(rt, Stage::Adding);
     shown_of(rt, look, graph, &literals, &words, watch)
@@ -227,6 +231,7 @@ impl<'a> Inside<'a> {
         Ok(found >= SOME && has_adders(alloc, &self.sweep)?)
     }
 
+    #[tactic(auto, using(eqc_build::proofs::StepLaws::each_choice))]
     /// Chooses signals of the first netlist in place of signals of the second one, where words to
     /// which these belong are shown equal by what they add up to: whether some are. Words are found
     /// by adders, of signals that look alike. Where nothing looks like that it is left at a look;

@@ -1,4 +1,4 @@
-use Rattle.std.proofs.Common.{◌∷◌, [], arith}
+use Rattle.std.proofs.Common.{arith}
 use Rattle.std.proofs.lemmas.List.{length_push}
 use Rattle.eqc_sums.proofs.ShownLaws.{copies_more}
 use Rattle.eqc_sums.proofs.shown.copies.Goals as goal
