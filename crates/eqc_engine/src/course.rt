@@ -14,14 +14,15 @@
 //! | 9 | long rounds of sweeping, as long as they find nodes equal | `sweep_more` | the same as 3 |
 //! | 10 | short searches | `by_search` | the same as 4 |
 //! | 11 | diagrams by all workers, and where these don't fit by one of them | `in_room` | the outputs left, where they fit |
-//! | 12 | a longer search that refutes | `ask_outputs` | outputs that are found equal |
-//! | 13 | longer searches | `by_search` | the same as 4 |
-//! | 14 | diagrams by all workers once more, where 12 found some outputs equal | `in_room` | the outputs left, where they fit |
+//! | 12 | words inside that add up the same, and a round of sweeping over them | `by_inner_sums` | the same as 3 |
+//! | 13 | a longer search that refutes | `ask_outputs` | outputs that are found equal |
+//! | 14 | longer searches | `by_search` | the same as 4 |
+//! | 15 | diagrams by all workers once more, where 13 found some outputs equal | `in_room` | the outputs left, where they fit |
 //!
 //! `known_by_structure` has 1, `decide_pair` begins with 2, `behind_first` with 3, and
 //! `by_sweeping` goes on from there: `by_short_rounds` has 3 and 4, `by_sums` 5, `by_one` 7 and 8,
-//! `by_long_rounds` 9 to 11, and `by_longer_searches` the others. With few nodes or without
-//! conflicts 11 follows 2, and nothing else does.
+//! `by_long_rounds` 9 to 11, and `by_longer_searches` 13 to 15. With few nodes or without conflicts
+//! 11 follows 2, and nothing else does.
 ghost use Rattle.std.specs.Prelude.{◌≡◌, None, length, IfOk, IfErr};
 ghost use Rattle.eqc_compare.specs.Alike.{IsKnown};
 ghost use Rattle.eqc_inside.specs.Inside.{KeepsMarks};
@@ -328,6 +329,26 @@ fn by_short_rounds<R: Threads + Wait + Sync, P: Progress<R> + Sync>(
     by_search(comparison, inside, alike, few_conflicts(comparison), left)
 }
 
+/// The report where all that is to be told is known: `NodeLimit` where it isn't.
+fn of_known<R: Threads + Wait + Sync, P: Progress<R> + Sync>(
+    comparison: &Comparison<'_, R, P>,
+    alike: &Alike,
+) -> Result<Report, Stop>
+    requires { IsKnown comparison.now.pair.now alike.now }
+    ensures { IfOk result (λ report. report_of report ≡ pair_report comparison.now.options.now.every comparison.now.pair.now) }
+{
+    let Comparison {
+        alloc,
+        pair,
+        options,
+        ..
+    } = *comparison;
+    match known_outcome(alloc, pair, &alike.equal) {
+        Some(outcome) => found_report(alloc, pair, options.every, outcome),
+        None => Err(Stop::NodeLimit),
+    }
+}
+
 /// The report where words of outputs are shown equal by what they add up to, which become known.
 fn by_sums<R: Threads + Wait + Sync, P: Progress<R> + Sync>(
     comparison: &Comparison<'_, R, P>,
@@ -353,10 +374,45 @@ fn by_sums<R: Threads + Wait + Sync, P: Progress<R> + Sync>(
         // Where memory is refused the run goes on with what was shown before.
         let _ = inside.add_up(rt, alloc, alike, conflicts, watch);
     }
-    match known_outcome(alloc, pair, &alike.equal) {
-        Some(outcome) => found_report(alloc, pair, options.every, outcome),
-        None => Err(Stop::NodeLimit),
+    of_known(comparison, alike)
+}
+
+/// The report where words inside the netlists are shown equal by what they add up to, and what
+/// depends on them is swept anew in a round, with one of two signals in place of both. The outputs
+/// found equal so become known.
+fn by_inner_sums<R: Threads + Wait + Sync, P: Progress<R> + Sync>(
+    comparison: &Comparison<'_, R, P>,
+    inside: &mut Inside<'_>,
+    alike: &mut Alike,
+    rounds: &Rounds,
+) -> Result<Report, Stop>
+    requires inside { inside.old ≡ comparison.now.pair.now }
+    requires known { IsKnown comparison.now.pair.now alike.old }
+    ensures inside { inside.new ≡ inside.old }
+    ensures known { IsKnown comparison.now.pair.now alike.new }
+    ensures kept { KeepsMarks comparison.now.pair.now alike.old.equal.items alike.new.equal.items }
+    ensures report { IfOk result (λ report. report_of report ≡ pair_report comparison.now.options.now.every comparison.now.pair.now) }
+{
+    let Comparison {
+        rt,
+        alloc,
+        options,
+        watch,
+        ..
+    } = *comparison;
+    let conflicts = u64::from(options.conflicts);
+    let shown = inside.add_up_inside(rt, alloc, alike, conflicts, watch);
+    if !matches!(shown, Ok(true)) {
+        return Err(Stop::NodeLimit);
     }
+    watch.stage(rt, Stage::Sweeping);
+    // Where memory is refused the graph is as it was.
+    let _ = inside.begin_again(rt, alloc, alike, rounds, watch);
+    if let Ok(more) = inside.known(alloc, alike) {
+        *alike = more;
+    }
+    ask_while_found(comparison, inside, alike);
+    of_known(comparison, alike)
 }
 
 /// Sweeps in rounds that take no longer than diagrams of one worker, where there are few inputs.
@@ -442,7 +498,8 @@ fn by_longer_searches<R: Threads + Wait + Sync, P: Progress<R> + Sync>(
 }
 
 /// The report over what sweeping finds equal, which becomes known: by short rounds, by words that
-/// add up the same, in a larger room, by one worker, by long rounds, and by longer searches.
+/// add up the same, in a larger room, by one worker, by long rounds, by words inside that add up
+/// the same, and by longer searches.
 fn by_sweeping<R: Threads + Wait + Sync, P: Progress<R> + Sync>(
     comparison: &Comparison<'_, R, P>,
     inside: &mut Inside<'_>,
@@ -487,6 +544,10 @@ fn by_sweeping<R: Threads + Wait + Sync, P: Progress<R> + Sync>(
             Err(Stop::NodeLimit) => {}
             report => return report,
         }
+    }
+    match by_inner_sums(comparison, inside, alike, rounds) {
+        Err(Stop::NodeLimit) => {}
+        report => return report,
     }
     by_longer_searches(comparison, inside, alike, left)
 }

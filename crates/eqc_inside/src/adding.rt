@@ -37,7 +37,7 @@ const EACH_NODE: u64 = 10_000;
 const WHOLE: u64 = 60_000_000;
 
 /// So many words that aren't shown equal end a turn.
-const MOST_FAILED: u32 = 3;
+pub(crate) const MOST_FAILED: u32 = 3;
 
 /// So often a graph of fewer nodes than `LARGE` is made of the words that are open, each time with
 /// other patterns, and with the other netlist first: which adders are found depends on both.
@@ -47,10 +47,10 @@ const LARGE: u32 = 20_000;
 
 /// In a graph of more nodes none is shown: words of 64 bits times 64 take a quarter of them, and
 /// each step takes time for what there is.
-const MOST_NODES: u32 = 200_000;
+pub(crate) const MOST_NODES: u32 = 200_000;
 
 /// The limits for words in a graph of so many nodes.
-fn limits_in(nodes: u32, conflicts: u64) -> Limits {
+pub(crate) fn limits_in(nodes: u32, conflicts: u64) -> Limits {
     let limits = Limits::of(conflicts);
     let work = u64::from(nodes) * EACH_NODE + WHOLE;
     Limits {
@@ -116,14 +116,14 @@ fn of_words(alloc: Global, outputs: usize, words: &[Vec<usize>]) -> Result<Vec<b
 
 /// The literals of the two signals of a word's outputs, in turn.
 #[derive(Drop)]
-struct Literals {
-    firsts: Vec<u32>,
-    seconds: Vec<u32>,
+pub(crate) struct Literals {
+    pub(crate) firsts: Vec<u32>,
+    pub(crate) seconds: Vec<u32>,
 }
 
 /// The literals of a word's outputs, up to the first one that has none. Fails where memory is
 /// refused.
-fn literals_of(
+pub(crate) fn literals_of(
     alloc: Global,
     steps: &Steps<'_>,
     literals: &[Option<u32>],

@@ -289,4 +289,23 @@ impl<'a> Inside<'a> {
         let work = rounds.in_proportion(work_for(self.sweep.graph().len()));
         self.work = work.saturating_sub(seeing).max(work / PART);
     }
+
+    /// Enters anew what the outputs need that aren't marked, where more is known of the pair than
+    /// before, and sweeps it in a first round. The watch is told of each node that is swept. Fails
+    /// where memory is refused: all is as it was then.
+    pub fn begin_again<R: Threads + Sync, P: Progress<R>>(
+        &mut self,
+        rt: &R,
+        alloc: Global,
+        alike: &Alike,
+        rounds: &Rounds,
+        watch: &P,
+    ) -> Result<(), AllocError>
+        requires { IsKnown self.old alike.now }
+        ensures { self.new ≡ self.old }
+    {
+        let next = Inside::of(rt, alloc, self.steps.pair(), alike, rounds, watch)?;
+        *self = next;
+        Ok(())
+    }
 }

@@ -116,7 +116,7 @@ fn above_all(literals: &[Option<u32>]) -> u32 {
 
 /// Chooses in place of each step the first one of its literal, and the one that is chosen already
 /// where it has none. Fails where memory is refused.
-fn first_of_literal(
+pub(crate) fn first_of_literal(
     alloc: Global,
     steps: &Steps<'_>,
     chosen: &[u32],

@@ -9,7 +9,7 @@
 //! - `inside`, the graph, and the outputs and steps that are equal by it; `entering`, what enters
 //!   it
 //! - `rounds`, what is asked once more with more effort; `adding`, words of outputs that add up the
-//!   same (`specs/Adding.antt`)
+//!   same (`specs/Adding.antt`), and `inner`, words inside that do
 //! - `searching`, outputs that differ, with their least assignments, and `asking`, several of them
 //!   at once by several threads
 #![tactic(auto)]
@@ -17,6 +17,7 @@
 mod adding;
 mod asking;
 mod entering;
+mod inner;
 mod inside;
 mod outputs;
 mod rounds;

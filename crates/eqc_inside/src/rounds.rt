@@ -169,7 +169,7 @@ impl Rounds {
 
 /// The literals of the steps that outputs which aren't known yet are made of, in the first netlist
 /// alone or in both, and that of the assumption. Fails where memory is refused.
-fn open_literals(
+pub(crate) fn open_literals(
     alloc: Global,
     steps: &Steps<'_>,
     literals: &[Option<u32>],
@@ -199,7 +199,7 @@ fn open_literals(
 }
 
 /// The literal of a step, if it has one.
-fn entry(literals: &[Option<u32>], step: usize) -> Option<u32>
+pub(crate) fn entry(literals: &[Option<u32>], step: usize) -> Option<u32>
     ensures { result ≡ reference_of literals.now step }
 {
     literals.get(step).copied().flatten()

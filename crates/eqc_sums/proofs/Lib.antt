@@ -5,3 +5,4 @@ pub mod WordLemmas
 pub mod KeepLemmas
 pub mod PolynomialLemmas
 pub mod ChainLemmas
+pub mod ShownLaws

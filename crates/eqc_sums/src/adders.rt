@@ -114,7 +114,7 @@ fn plain(x: u32, y: u32, z: u32) -> (u32, u32, u32) {
 }
 
 /// Whether a carry is a constant or one of the literals.
-fn is_degenerate(block: &Block) -> bool {
+pub(crate) fn is_degenerate(block: &Block) -> bool {
     let carry = node_of(block.carry);
     carry == 0 || carry == block.x / 2 || carry == block.y / 2 || carry == block.z / 2
 }
@@ -410,7 +410,7 @@ impl Adders {
     }
 
     /// Of how many nodes something is known.
-    fn count(&self) -> u32 {
+    pub(crate) fn count(&self) -> u32 {
         self.nodes.len().min(u32::MAX as usize) as u32
     }
 
@@ -792,6 +792,37 @@ impl Adders {
             if reduction.sweep().graph().len() == nodes {
                 break;
             }
+        }
+        self.seen = reduction.sweep().graph().len();
+        Ok(())
+    }
+
+    /// The literals of which conjunctions with an exclusive or may say that two of them or three
+    /// are true.
+    fn carried(&self) -> Result<Vec<(u32, u32, u32)>, AllocError> {
+        let mut out = Vec::new(self.alloc);
+        for node in 0..self.count() {
+            if let Some((l, r)) = self.literals(node) {
+                for (inner, other) in [(l, r), (r, l)] {
+                    if let Some((x, y)) = self.pair(node_of(inner), 0) {
+                        out.push(plain(x, y, other))?;
+                    }
+                }
+            }
+        }
+        Ok(out)
+    }
+
+    #[tactic(auto, using(crate::proofs::KeepLemmas::keeps_itself, crate::proofs::KeepLemmas::keeps_along))]
+    /// Finds adders of which the carry is there by its gates, also where nothing depends on the
+    /// sum, which is made.
+    pub(crate) fn find_by_carries(&mut self, reduction: &mut Reduction) -> Result<(), AllocError>
+        ensures { Keeps reduction.old.sweep reduction.new.sweep reduction.old.form reduction.new.form }
+    {
+        self.catch_up(reduction.sweep().graph())?;
+        let candidates = self.carried()?;
+        'candidates: for three in &candidates {
+            self.try_block(reduction, *three, false)?;
         }
         self.seen = reduction.sweep().graph().len();
         Ok(())

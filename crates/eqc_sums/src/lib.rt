@@ -16,9 +16,11 @@
 //! - `chains`, a copy of a graph in which chains of carries stand in place of trees of prefixes
 //!   (`specs/Chains.antt`), and `leaves`, what is left of exclusive ors in which something cancels
 //!   out
+//! - `shown`, words shown equal in a copy of what they are made of
 //! - `support` and `adders`, what is found in the graph; `choice`, which step comes next;
 //!   `columns`, what a word comes to, added up as another one does it, with the literals of one
-//!   `column` and what is `chosen` of them: of these nothing is believed
+//!   `column` and what is `chosen` of them; `inner`, words that look alike, by the `frames` in
+//!   which their nodes count: of these nothing is believed
 #![tactic(auto)]
 
 mod adders;
@@ -28,13 +30,16 @@ mod chosen;
 mod column;
 mod columns;
 mod form;
+mod frames;
 mod gates;
+mod inner;
 mod leaves;
 mod moves;
 mod names;
 mod place;
 mod polynomial;
 mod reduction;
+mod shown;
 mod steps;
 mod sums;
 mod support;
@@ -43,7 +48,9 @@ mod words;
 
 pub use chains::copy_with_chains;
 pub use form::Form;
+pub use inner::{Lookalikes, find_lookalikes, is_made_alike};
 pub use names::words_of;
 pub use reduction::Reduction;
+pub use shown::are_shown_equal;
 pub use sums::{Limits, Sums, has_adders};
 pub use term::Term;

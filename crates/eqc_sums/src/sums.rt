@@ -7,6 +7,7 @@ ghost use Rattle.eqc_sums.specs.Adding.{AreEqualWords};
 use crate::adders::Adders;
 use crate::choice::Choice;
 use crate::columns::Columns;
+use crate::inner::{Lookalikes, inner_words};
 use crate::moves::{Move, apply};
 use crate::reduction::Reduction;
 use eqc_sweep::{Effort, Sweep};
@@ -244,6 +245,30 @@ impl Sums {
         self.reduction.ask_again(limits.effort())?;
         self.adders.find(&mut self.reduction)?;
         self.reduction.ask_again(limits.effort())
+    }
+
+    /// Looks for adders also by their carries, where nothing depends on the sum: it is made. Fails
+    /// where memory is refused.
+    pub(crate) fn find_carries(&mut self) -> Result<(), AllocError>
+        ensures { Extends self.old.reduction.sweep self.new.reduction.sweep }
+    {
+        self.adders.find_by_carries(&mut self.reduction)
+    }
+
+    /// Words inside two netlists that look alike, of what these literals of each are made of, by
+    /// the adders that were found. Nothing is promised of them. Fails where memory is refused.
+    pub(crate) fn inner_words(
+        &self,
+        firsts: &[u32],
+        seconds: &[u32],
+    ) -> Result<Vec<Lookalikes>, AllocError> {
+        inner_words(
+            self.alloc,
+            self.reduction.sweep(),
+            &self.adders,
+            firsts,
+            seconds,
+        )
     }
 
     #[tactic(auto, using(crate::proofs::GateLemmas::extends_both))]
