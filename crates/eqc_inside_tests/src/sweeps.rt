@@ -5,7 +5,7 @@ ghost use Rattle.eqc_graph.specs.Graph.{IsWithin, Extends};
 
 use crate::ends::same;
 use eqc_graph::{Graph, negated};
-use eqc_sweep::{Comparison, Effort, Sweep, Twins, below, copied, copy, no_copies};
+use eqc_sweep::{Comparison, Effort, Random, Sweep, Twins, below, copied, copy, no_copies};
 use std::alloc::{AllocError, Global};
 use std::process::Abort;
 use std::thread::Threads;
@@ -256,6 +256,20 @@ fn a_carry_is_a_majority(rt: HostRuntime) -> Result<(), AllocError> {
         same(&rt, carries(&mut made.sweep), Ok((asks, true)), asks);
     }
     Ok(())
+}
+
+/// The first words of two generators, worked out apart.
+static WORDS: &[(u64, [u64; 2])] = &[
+    (0, [0x7403_D1A2_8C9A_2599, 0xDD70_F339_AB8E_CB5E]),
+    (1, [0xE807_A345_1934_4B32, 0xF4E1_E673_571D_96BC]),
+];
+
+#[test]
+fn words_are_the_same_in_each_run(rt: HostRuntime) {
+    for (number, words) in WORDS {
+        let mut random = Random::numbered(*number);
+        same(&rt, [random.next(), random.next()], *words, number);
+    }
 }
 
 /// Whether gates of two variables are known that are made again, or in another form.

@@ -5,39 +5,23 @@ use crate::covers::Covers;
 use crate::partner::NONE;
 use crate::told::variable_value;
 use eqc_build::Steps;
+use eqc_sweep::Random;
 use std::alloc::{AllocError, Global};
 
 /// How many words each step has.
 pub(crate) const ROUNDS: usize = 8;
 
-/// Bits that are one with probability 1/2, by an xorshift with a multiplication at its end.
-#[derive(Clone, Copy)]
-struct Random {
-    state: u64,
-}
-
-impl Random {
-    fn next(&mut self) -> u64 {
-        let mut x = self.state;
-        x ^= x << 13;
-        x ^= x >> 7;
-        x ^= x << 17;
-        self.state = x;
-        x.wrapping_mul(0x2545_F491_4F6C_DD1D)
-    }
-
-    /// The inputs' bits in which a round departs from the assignment of the difference: one in
-    /// eight, one in 32, and half of them.
-    fn flips(&mut self, round: usize) -> u64 {
-        match round {
-            0 => self.next() & self.next() & self.next() & !1,
-            1 | 2 | 3 => {
-                let few = self.next() & self.next() & self.next();
-                few & self.next() & self.next()
-            }
-            4 | 5 => self.next() & self.next() & self.next(),
-            _ => self.next(),
+/// The inputs' bits in which a round departs from the assignment of the difference: one in eight,
+/// one in 32, and half of them.
+fn flips(random: &mut Random, round: usize) -> u64 {
+    match round {
+        0 => random.next() & random.next() & random.next() & !1,
+        1 | 2 | 3 => {
+            let few = random.next() & random.next() & random.next();
+            few & random.next() & random.next()
         }
+        4 | 5 => random.next() & random.next() & random.next(),
+        _ => random.next(),
     }
 }
 
@@ -59,7 +43,7 @@ fn input_words(
     for variable in 0..variables {
         let told = variable_value(steps.pair(), values, variable as u16);
         let word = if told { u64::MAX } else { 0 };
-        inputs.push(word ^ random.flips(round))?;
+        inputs.push(word ^ flips(random, round))?;
     }
     Ok(inputs)
 }
@@ -89,9 +73,7 @@ pub(crate) fn words_under(
     covers: &Covers,
     values: &[bool],
 ) -> Result<Vec<Vec<u64>>, AllocError> {
-    let mut random = Random {
-        state: 0x9E37_79B9_7F4A_7C15,
-    };
+    let mut random = Random::new();
     let mut rounds = Vec::with_capacity(alloc, ROUNDS)?;
     for round in 0..ROUNDS {
         let inputs = input_words(alloc, steps, values, &mut random, round)?;

@@ -26,5 +26,6 @@ mod table;
 pub use copying::{below, copied, copy, no_copies};
 pub use effort::{Effort, Tally};
 pub use finder::comparison::Comparison;
+pub use finder::random::Random;
 pub use finder::twins::Twins;
 pub use sweep::Sweep;

@@ -1,6 +1,7 @@
 //! Simulation: a word for each node of a graph, with its value under 64 assignments. Nothing is
 //! promised of it.
 use eqc_graph::{Graph, Node, is_negated, node_of};
+use eqc_sweep::Random;
 use std::alloc::{AllocError, Global};
 
 /// How many assignments there are at once.
@@ -11,7 +12,7 @@ pub(crate) const LANES: u32 = 64;
 pub(crate) struct Simulation {
     words: Vec<u64>,
     /// Of the pseudo-random words, the same in each run.
-    state: u64,
+    random: Random,
     /// How many words were made of others.
     pub(crate) work: u64,
 }
@@ -22,7 +23,7 @@ impl Simulation {
         let words = vec![in alloc; 0; graph.len() as usize]?;
         Ok(Simulation {
             words,
-            state: 0x9E37_79B9_7F4A_7C15,
+            random: Random::new(),
             work: 0,
         })
     }
@@ -56,14 +57,9 @@ impl Simulation {
         }
     }
 
-    /// A pseudo-random word (xorshift, with a multiplication at the end).
+    /// A pseudo-random word.
     pub(crate) fn random(&mut self) -> u64 {
-        let mut x = self.state;
-        x ^= x << 13;
-        x ^= x >> 7;
-        x ^= x << 17;
-        self.state = x;
-        x.wrapping_mul(0x2545_F491_4F6C_DD1D)
+        self.random.next()
     }
 
     /// Makes the words of the gates, by those of the inputs.

@@ -1,24 +1,26 @@
 //! Pseudo-random words, the same in each run.
 
-/// A generator of words (xorshift, with a multiplication at the end).
+/// A generator of words (xorshift, with a multiplication at the end). Nothing is promised of them.
 #[derive(Clone, Copy, Debug)]
-pub(crate) struct Random {
+pub struct Random {
     state: u64,
 }
 
 impl Random {
-    pub(crate) fn new() -> Random {
+    /// The first generator.
+    pub fn new() -> Random {
         Random::numbered(0)
     }
 
     /// One of several generators, by its number.
-    pub(crate) fn numbered(number: u64) -> Random {
+    pub fn numbered(number: u64) -> Random {
         Random {
             state: 0x9E37_79B9_7F4A_7C15u64.wrapping_mul(number.wrapping_add(1)),
         }
     }
 
-    pub(crate) fn next(&mut self) -> u64 {
+    /// The next word: each bit is one with probability 1/2.
+    pub fn next(&mut self) -> u64 {
         let mut x = self.state;
         x ^= x << 13;
         x ^= x >> 7;
