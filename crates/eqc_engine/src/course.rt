@@ -32,9 +32,10 @@ ghost use Rattle.eqc_report.specs.Options.{options_code};
 ghost use Rattle.eqc_report.specs.Seen.{IsLeftOf};
 ghost use Rattle.eqc_report.specs.Left.{IsTold, KeepsTold};
 
+use crate::begun::Begun;
 use crate::workers::{
-    Comparison, check_by_one, check_by_team, check_in_first, check_in_large, goes_on_alone,
-    has_large_room, has_some_inputs,
+    Comparison, check_by_one, check_by_team, check_first, check_in_large, first_nodes,
+    goes_on_alone, has_large_room, has_many_inputs, has_some_inputs, is_full,
 };
 use eqc_compare::{Alike, Progress, Stage, alike_or_nothing, known_outcome};
 use eqc_inside::{Conflicts, Inside, Rounds, Searched, Span, Terms};
@@ -64,14 +65,12 @@ const FRUITFUL: u64 = 8;
 /// There are no more rounds of sweeping than so many, whatever they find.
 const MOST_ROUNDS: u32 = 100;
 
-/// Where a run's comparison is made.
+/// Where a run's comparison is made, behind the first room: a store of one thread, which is left as
+/// soon as it is full, or as the turns of its operations are spent.
 #[derive(Clone, Copy, PartialEq)]
 enum Room {
-    /// In a store of one thread, which is left as soon as it is full, or as the turns of its
-    /// operations are spent.
-    First,
-    /// In a larger one, which is left in the same way. Where the first one was as large there is
-    /// nothing to be had from it.
+    /// In a larger store of one thread, which is left in the same way. Where the first one was as
+    /// large there is nothing to be had from it.
     Large,
     /// In a forest of one worker, who takes dead nodes back, which is left as the turns of that are
     /// spent.
@@ -81,18 +80,14 @@ enum Room {
     Whole,
 }
 
-/// Tells of the stage in which outputs are compared in a room, before the first of them is.
-fn tell_room<R, P: Progress<R>>(comparison: &Comparison<'_, R, P>, room: Room) {
+/// Tells of a stage in which outputs are compared, before the first of them is.
+fn tell_outputs<R, P: Progress<R>>(comparison: &Comparison<'_, R, P>, stage: Stage) {
     let Comparison {
         rt,
         pair,
         watch,
         ..
     } = *comparison;
-    let stage = match room {
-        Room::First | Room::Large | Room::One => Stage::FirstDiagrams,
-        Room::Whole => Stage::AllDiagrams,
-    };
     watch.stage(rt, stage);
     watch.step(rt, 0, pair.first().outputs().len());
 }
@@ -117,34 +112,34 @@ fn in_room<R: Threads + Wait + Sync, P: Progress<R> + Sync>(
         return found_report(alloc, pair, options.every, outcome);
     }
     match room {
-        Room::First => {
-            tell_room(comparison, room);
-            check_in_first(comparison, alike)
-        }
         Room::Large => {
             if !has_large_room(pair, options) {
                 return Err(Stop::NodeLimit);
             }
-            tell_room(comparison, room);
+            tell_outputs(comparison, Stage::FirstDiagrams);
             check_in_large(comparison, alike)
         }
         Room::One => {
             if !goes_on_alone(pair, options) {
                 return Err(Stop::NodeLimit);
             }
-            tell_room(comparison, room);
+            tell_outputs(comparison, Stage::FirstDiagrams);
             check_by_one(comparison, alike)
         }
         Room::Whole => {
-            tell_room(comparison, room);
+            tell_outputs(comparison, Stage::AllDiagrams);
             check_by_team(comparison, alike)
         }
     }
 }
 
-/// The report by diagrams on one thread, or why it stopped. Most comparisons take less time there
-/// than a forest to begin. Few nodes a forest has as fast, and uses again.
-fn first_diagrams<R: Threads + Wait + Sync, P: Progress<R> + Sync>(
+/// The report by diagrams on one thread, in the first room, or why it stopped. Most comparisons
+/// take less time there than a forest to begin. Few nodes a forest has as fast, and uses again.
+///
+/// Where there are very many inputs, and many outputs began there before it was full, it is by
+/// diagrams in the larger room, if there is one. With fewer inputs what has many such outputs may
+/// be a product, of which the others fit into no room.
+fn first_diagrams<R, P: Progress<R>>(
     comparison: &Comparison<'_, R, P>,
     alike: &Alike,
 ) -> Result<Report, Stop>
@@ -152,10 +147,31 @@ fn first_diagrams<R: Threads + Wait + Sync, P: Progress<R> + Sync>(
     requires known { IsKnown comparison.now.pair.now alike.now }
     ensures report { IfOk result (λ report. report_of report ≡ pair_report comparison.now.options.now.every comparison.now.pair.now) }
 {
-    if comparison.options.nodes < SWEPT_NODES {
+    let Comparison {
+        alloc,
+        pair,
+        options,
+        watch,
+        ..
+    } = *comparison;
+    if options.nodes < SWEPT_NODES {
         return Err(Stop::NodeLimit);
     }
-    in_room(comparison, Room::First, alike)
+    match known_outcome(alloc, pair, &alike.equal) {
+        Some(outcome) => return found_report(alloc, pair, options.every, outcome),
+        None => {}
+    }
+    let Ok(again) = alike.clone() else {
+        return Err(Stop::Memory);
+    };
+    tell_outputs(comparison, Stage::FirstDiagrams);
+    let begun = Begun::new(watch);
+    let report = check_first(comparison, again, first_nodes(pair, options), &begun);
+    let goes_on = has_many_inputs(pair) && begun.has_many(pair) && is_full(&report);
+    if goes_on && has_large_room(pair, options) {
+        return check_in_large(comparison, alike);
+    }
+    report
 }
 
 /// The report by searches for differences with so many conflicts, or `NodeLimit` where these don't
@@ -590,26 +606,6 @@ fn behind_first<R: Threads + Wait + Sync, P: Progress<R> + Sync>(
     }
 }
 
-/// The report by the first stage that decides the pair, or why none does.
-fn by_stages<R: Threads + Wait + Sync, P: Progress<R> + Sync>(
-    comparison: &Comparison<'_, R, P>,
-    alike: &mut Alike,
-    left: &mut Undecided,
-) -> Result<Report, Stop>
-    requires options { options_code comparison.now.options.now ≡ None }
-    requires known { IsKnown comparison.now.pair.now alike.old }
-    ensures known { IsKnown comparison.now.pair.now alike.new }
-    ensures kept { KeepsMarks comparison.now.pair.now alike.old.equal.items alike.new.equal.items }
-    ensures report { IfOk result (λ report. report_of report ≡ pair_report comparison.now.options.now.every comparison.now.pair.now) }
-    ensures seen { IsLeftOf comparison.now.pair.now left.old → IsLeftOf comparison.now.pair.now left.new }
-    ensures told { KeepsTold left.old left.new }
-{
-    match first_diagrams(comparison, alike) {
-        Err(Stop::NodeLimit) => behind_first(comparison, alike, left),
-        report => report,
-    }
-}
-
 /// What is known of a pair at first: outputs whose two signals have one structure are equal, and
 /// one diagram is built for all signals of one structure, of both netlists. Nothing where memory
 /// for that is refused. The watch is told of the stage.
@@ -648,7 +644,10 @@ pub fn decide_pair<R: Threads + Wait + Sync, P: Progress<R> + Sync>(
     ensures told { IfOk result (λ _. KeepsTold left.old left.new) }
     ensures left { IfErr result (λ _. IsTold comparison.now.pair.now alike.new.equal.items left.new.left) }
 {
-    let report = by_stages(comparison, alike, left);
+    let report = match first_diagrams(comparison, alike) {
+        Err(Stop::NodeLimit) => behind_first(comparison, alike, left),
+        report => report,
+    };
     match report {
         Ok(report) => Ok(report),
         Err(stop) => {

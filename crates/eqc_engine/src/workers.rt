@@ -7,7 +7,6 @@ ghost use Rattle.eqc_report.specs.PairReport.{pair_report};
 ghost use Rattle.eqc_report.specs.ReportView.{report_of};
 ghost use Rattle.eqc_report.specs.Options.{options_code};
 
-use crate::begun::Begun;
 use crate::watched::{Watched, all_watched};
 use eqc_apply::{Allowance, Applier, team_with};
 use eqc_compare::{Alike, Gate, Progress, compare_known, is_settled};
@@ -164,7 +163,7 @@ fn largest_nodes(pair: &Pair<'_>) -> u32
 
 /// The nodes of the first room: as many as the options allow, but more for a pair of few inputs.
 /// Who allows fewer than is usual gets no more than that.
-fn first_nodes(pair: &Pair<'_>, options: &Options) -> u32
+pub(crate) fn first_nodes(pair: &Pair<'_>, options: &Options) -> u32
     requires { options_code options.now ≡ None }
     ensures some { 1 ≤ result }
     ensures few { options.now.nodes < 65536 → result ≤ options.now.nodes }
@@ -191,7 +190,7 @@ fn large_turns(pair: &Pair<'_>) -> u64 {
 }
 
 /// Whether there are so many inputs that diagrams are thin where they fit.
-fn has_many_inputs(pair: &Pair<'_>) -> bool {
+pub(crate) fn has_many_inputs(pair: &Pair<'_>) -> bool {
     pair.first().inputs().len() >= MANY_INPUTS
 }
 
@@ -292,7 +291,7 @@ fn team_for(
 /// of the pair, or why it stopped. Where the options allow fewer nodes than is usual it has no more
 /// than they do. A store that is full is left at once: what was given back there makes no room. The
 /// gate is told of each comparison, and the watch of the nodes in use behind each operation.
-fn check_first<R, P: Progress<R>, G: Gate<R>>(
+pub(crate) fn check_first<R, P: Progress<R>, G: Gate<R>>(
     comparison: &Comparison<'_, R, P>,
     alike: Alike,
     nodes: u32,
@@ -434,7 +433,7 @@ pub(crate) fn check_in_large<R, P: Progress<R>>(
 }
 
 /// Whether a store was full, or the turns of its operations spent.
-fn is_full(report: &Result<Report, Stop>) -> bool {
+pub(crate) fn is_full(report: &Result<Report, Stop>) -> bool {
     matches!(report, Err(Stop::NodeLimit))
 }
 
@@ -464,36 +463,6 @@ pub(crate) fn check_by_team<R: Threads + Wait + Sync, P: Progress<R> + Sync>(
     };
     let alone = alone_options(options, options.nodes);
     check_team(comparison, again, &alone, turns_for(&alone))
-}
-
-/// The report by diagrams in the first room, where this is known of the pair, or why it stopped.
-/// Where there are very many inputs, and many outputs began there before it was full, it is by
-/// those in the larger room, if there is one. With fewer inputs what has many such outputs may be a
-/// product, of which the others fit into no room.
-pub(crate) fn check_in_first<R, P: Progress<R>>(
-    comparison: &Comparison<'_, R, P>,
-    alike: &Alike,
-) -> Result<Report, Stop>
-    requires options { options_code comparison.now.options.now ≡ None }
-    requires known { IsKnown comparison.now.pair.now alike.now }
-    ensures report { IfOk result (λ report. report_of report ≡ pair_report comparison.now.options.now.every comparison.now.pair.now) }
-{
-    let Comparison {
-        pair,
-        options,
-        watch,
-        ..
-    } = *comparison;
-    let Ok(again) = alike.clone() else {
-        return Err(Stop::Memory);
-    };
-    let begun = Begun::new(watch);
-    let report = check_first(comparison, again, first_nodes(pair, options), &begun);
-    let goes_on = has_many_inputs(pair) && begun.has_many(pair) && is_full(&report);
-    if goes_on && has_large_room(pair, options) {
-        return check_in_large(comparison, alike);
-    }
-    report
 }
 
 /// The report by diagrams of one worker alone, who takes dead nodes back, where this is known of
