@@ -27,7 +27,10 @@ use Rattle.eqc_report.specs.declared.report.Status.TheVariants.{Equivalent, Diff
 use Rattle.eqc_report.specs.ReportView.{status_of}
 use Rattle.eqc_case.specs.Sources.{items_of, given_of, IsRead, MayBeRead, AreTextsRead, AreRead}
 use Rattle.eqc_report.specs.Written.{IsWritten}
-use Rattle.eqc_case.specs.Running.{two_known, known_texts, known_some, all_known, known_given, IsReport}
+use Rattle.eqc_case.specs.Left.{IsLeftBeside}
+use Rattle.eqc_case.specs.Running.{two_known, known_texts, known_some, all_known, known_given, IsReport, IsKept}
+use Rattle.eqc_report.specs.declared.report.Report.{Report}
+use Rattle.eqc_report.specs.declared.undecided.Undecided.{Undecided}
 
 if_some_all : {A : Type 0} (o : Option A) (P : A → Type 0) → ((x : A) → P x) → IfSome o P
 if_some_all None P h = tt
@@ -231,3 +234,9 @@ written_warned remaining given report old new status found at warns w e = record
     | inr none ↦ if_some_all (known_texts given.names remaining given.texts) _ (λ known. e ∙ (none found ∙ sym (none (warnings_on given.options.bytes known))))
   ];
 }
+
+-- what is kept with a report is told of what was read for it
+pub kept_beside : {R : Type 0} (remaining : R → Option (List ℕ)) (given : Given R) (report : Report) (left : Undecided) (case : Option Case) → IsKept remaining given report left case →
+    IsLeftBeside case report left
+kept_beside remaining given report left None kept = kept.told
+kept_beside remaining given report left (Some case) kept = kept.told

@@ -13,6 +13,8 @@ use Rattle.eqc_report.specs.declared.undecided.Undecided.{Undecided}
 use Rattle.eqc_tree.specs.declared.stopping.Stop.{Stop}
 use Rattle.eqc_tree.specs.declared.stopping.Stop.TheVariants.{Memory}
 use Rattle.eqc_case.specs.Answer.{MainOf, GivenOf, first_found, second_found, assumption_found}
+use Rattle.eqc_case.specs.Sources.{given_of}
+use Rattle.eqc_case.specs.declared.given.Case.{Case}
 
 -- ---- the pair of what a run is given
 
@@ -92,3 +94,8 @@ IsToldBeside given (report.Differs differences) left = Unit {0}
 IsToldBeside given report.Vacuous left = Unit {0}
 IsToldBeside given (report.Refused refusal) left = Unit {0}
 IsToldBeside given (report.Stopped stop) left = IsStopToldOf given stop left
+
+-- what is told beside a report is told of what was read for it, and where nothing was, nothing is told
+abbrev pub IsLeftBeside : Option Case → Report → Undecided → Type 0
+IsLeftBeside None report left = IsNoneTold left
+IsLeftBeside (Some case) report left = IsToldBeside (given_of case) report left

@@ -1,6 +1,9 @@
 //! What is told of a run that gave no verdict, beside its report.
 ghost use Rattle.eqc_case.specs.Diagnosed.{IsLocated, IsBordered};
+ghost use Rattle.eqc_case.specs.Left.{IsStopToldOf};
+ghost use Rattle.eqc_case.specs.Sources.{given_of};
 
+use crate::given::Case;
 use eqc_blif::Library;
 use eqc_pair::{Finding, Pair, Side};
 use eqc_place::{Border, Places};
@@ -74,9 +77,10 @@ pub trait Diagnostics {
     /// The run was stopped.
     fn stopped(&mut self, stop: Stop);
 
-    /// The outputs that a run which was stopped left undecided; none where it came to no
-    /// comparison.
-    fn undecided(&mut self, left: &Undecided);
+    /// The outputs that a run left undecided which was stopped for this, of what was read for it:
+    /// none where it came to no comparison. It isn't called where nothing was read.
+    fn undecided(&mut self, stop: Stop, case: &Case<'_>, left: &Undecided)
+        requires { IsStopToldOf (given_of case.now) stop left.now };
 
     /// The text of this side could not be read.
     fn unread(&mut self, side: Side, error: &io::Error);
@@ -129,7 +133,7 @@ impl Diagnostics for NoDiagnostics {
 
     fn stopped(&mut self, _stop: Stop) {}
 
-    fn undecided(&mut self, _left: &Undecided) {}
+    fn undecided(&mut self, _stop: Stop, _case: &Case<'_>, _left: &Undecided) {}
 
     fn unread(&mut self, _side: Side, _error: &io::Error) {}
 

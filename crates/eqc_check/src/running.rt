@@ -4,7 +4,7 @@ ghost use Rattle.std.specs.Prelude.{◌≡◌, ◌≢◌, IfOk, IfErr, OnErr, Ok
 ghost use Rattle.eqc_report.specs.ReportView.{report_of};
 ghost use Rattle.eqc_report.specs.Options.{options_code};
 ghost use Rattle.eqc_report.specs.Written.{IsWritten, IsCutShort};
-ghost use Rattle.eqc_case.specs.Left.{IsNoneTold};
+ghost use Rattle.eqc_case.specs.Left.{IsNoneTold, IsLeftBeside};
 ghost use Rattle.eqc_case.specs.Running.{unnamed, IsReportFor, IsAnswered, IsCutOff, IsKept};
 ghost use Rattle.eqc_case.specs.Sources.{HasTextOf};
 ghost use Rattle.eqc_case.specs.Warning.{warnings_at, IsWarned, WarnsOfKnown};
@@ -125,31 +125,34 @@ fn tell_places<T: Diagnostics>(
     }
 }
 
-/// Tells up to where equality is known below the outputs that are left, if that is wanted and there
-/// are any.
-fn tell_border<T: Diagnostics>(alloc: Global, reported: &Reported<'_>, told: &mut T) {
-    let left = reported.left.left();
-    if left.count == 0 || !told.wants_border() {
+/// Tells which outputs are left where a run was stopped for this, of what was read for it, and up
+/// to where equality is known below them, if that is wanted and there are any. Where nothing was
+/// read none is left.
+fn tell_left<T: Diagnostics>(alloc: Global, stop: Stop, reported: &Reported<'_>, told: &mut T)
+    requires { IsLeftBeside reported.now.case (Report.Stopped stop) reported.now.left }
+{
+    let Some(case) = &reported.case else {
         return;
-    }
-    if let Some(case) = &reported.case {
-        if border_in_case(alloc, case, left, told).is_err() {
-            told.unlocated();
-        }
+    };
+    told.undecided(stop, case, &reported.left);
+    let left = reported.left.left();
+    if left.count > 0 && told.wants_border() && border_in_case(alloc, case, left, told).is_err() {
+        told.unlocated();
     }
 }
 
 /// Tells why a report is a refusal or a stop, or where its differences begin. Where memory is
 /// refused for it, nothing is told.
-fn tell<T: Diagnostics>(alloc: Global, reported: &Reported<'_>, told: &mut T) {
+fn tell<T: Diagnostics>(alloc: Global, reported: &Reported<'_>, told: &mut T)
+    requires { IsLeftBeside reported.now.case reported.now.told.report reported.now.left }
+{
     match &reported.told.report {
         Report::Equivalent => {}
         Report::Differs(differences) => tell_places(alloc, reported, differences, told),
         Report::Vacuous => told.vacuous(),
         Report::Stopped(stop) => {
             told.stopped(*stop);
-            told.undecided(&reported.left);
-            tell_border(alloc, reported, told);
+            tell_left(alloc, *stop, reported, told);
         }
         Report::Refused(refused) => match &reported.case {
             None => told.option(refused.code),
@@ -168,6 +171,7 @@ fn finish<W: Write, T: Diagnostics>(
     out: &mut W,
     told: Option<&mut T>,
 ) -> Result<Finished, RunFault>
+    requires left { IsLeftBeside reported.entry.case reported.entry.told.report reported.entry.left }
     ensures written { IfOk result (λ finished. IsWritten (report_of reported.entry.told.report) (W.contents out.old) (W.contents out.new) finished.status) }
     ensures warned { IfOk result (λ finished. finished.warnings ≡ warnings_at finished.status reported.entry.told.warnings) }
     ensures part { OnErr result (IsCutShort (report_of reported.entry.told.report) (W.contents out.old) (W.contents out.new)) }
@@ -190,6 +194,7 @@ fn finish<W: Write, T: Diagnostics>(
     }
 }
 
+#[tactic(auto, using(eqc_tree::proofs::HoldingLemmas::counts_itself, eqc_case::proofs::RunLaws::kept_beside))]
 /// Compares two netlists and writes the report, as `run_models` does. Why it is a refusal or a
 /// stop, or could not be made or written, is told afterwards, if that is wanted.
 ///

@@ -1,2 +1,3 @@
 pub mod AllowedLaws
 pub mod PlaceLaws
+pub mod ToldLaws

@@ -6,7 +6,7 @@ ghost use Rattle.eqc_place.specs.Allowed.{IsUnder};
 ghost use Rattle.eqc_place.specs.Places.{AreProved};
 
 use crate::partner::{literal_at, second_steps};
-use crate::told::{value_in, values_under};
+use crate::told::values_under;
 use eqc_build::Steps;
 use eqc_graph::negated_if;
 use eqc_sweep::Sweep;
@@ -59,7 +59,7 @@ pub(crate) fn literals_where_allowed(
             table.push(None)?;
             continue;
         };
-        let sign = value_in(&values, step).unwrap_or(false);
+        let sign = values.get(step as usize).copied().unwrap_or(false);
         let found = under(sweep, assumed, literal, sign)?;
         table.push(Some(found))?;
     }

@@ -1,5 +1,5 @@
 //! The call: where the outputs of a pair begin to differ.
-ghost use Rattle.std.specs.Prelude.{◌≡◌, ◌<◌, ◌≤◌, All, length, map, IfOk, IfSome};
+ghost use Rattle.std.specs.Prelude.{◌≡◌, ◌<◌, ◌≤◌, All, length, map, IfOk, IfSome, IsSome};
 ghost use Rattle.eqc_build.specs.Steps.{steps_in, uses_of};
 ghost use Rattle.eqc_pair.specs.PairOf.{input_values};
 ghost use Rattle.eqc_place.specs.Places.{AreApart, AreColumns, AreLocated, IsPartner, IsPlace};
@@ -12,7 +12,7 @@ use crate::known::Known;
 use crate::partner::{NONE, Partners, second_steps};
 use crate::place::{Column, Partner, Place, Places};
 use crate::ranking::Suspect;
-use crate::told::{value_in, values_under};
+use crate::told::values_under;
 use crate::trial::Trial;
 use crate::users::Users;
 use eqc_build::Steps;
@@ -251,18 +251,20 @@ impl<'a> Locator<'a> {
     }
 
     #[tactic(auto, using(crate::proofs::PlaceLaws::listing_begins, crate::proofs::PlaceLaws::listing_more, crate::proofs::PlaceLaws::listing_whole, crate::proofs::PlaceLaws::column_of))]
-    /// The columns of a step with their values, or none where one has none. Fails where memory is
+    /// The columns of a step with their values, where each step has one. Fails where memory is
     /// refused.
     fn columns(
         &self,
         alloc: Global,
         inputs: &[bool],
-        values: &[Option<bool>],
+        values: &[bool],
         step: u32,
-    ) -> Result<Option<Vec<Column>>, AllocError>
+    ) -> Result<Vec<Column>, AllocError>
         requires step { step < steps_in self.now.pair }
+        requires size { length values.now ≡ steps_in self.now.pair }
         requires values { AreValues self.now.pair (input_values self.now.pair inputs.now) values.now }
-        ensures { IfOk result (λ found. IfSome found (λ columns. AreColumns self.now.pair (input_values self.now.pair inputs.now) (uses_of self.now step) columns.items)) }
+        requires uses { All (λ column. column < length values.now) (uses_of self.now step) }
+        ensures { IfOk result (λ columns. AreColumns self.now.pair (input_values self.now.pair inputs.now) (uses_of self.now step) columns.items) }
     {
         // They are for the clauses alone, which say whose values these are.
         let _inputs = inputs;
@@ -270,9 +272,7 @@ impl<'a> Locator<'a> {
         let mut columns = Vec::with_capacity(alloc, uses.len())?;
         for c in 0..uses.len() {
             let column = uses.get(c);
-            let Some(value) = value_in(values, column) else {
-                return Ok(None);
-            };
+            let value = values[column as usize];
             let partner = self.partner(column);
             columns.push(Column {
                 step: column,
@@ -280,31 +280,30 @@ impl<'a> Locator<'a> {
                 partner,
             })?;
         }
-        Ok(Some(columns))
+        Ok(columns)
     }
 
-    /// What is told of a step, without what is found by simulation, or none where a value is
-    /// missing. Fails where memory is refused.
+    #[tactic(auto, using(crate::proofs::ToldLaws::columns_there))]
+    /// What is told of a step, without what is found by simulation, or none where there is no such
+    /// step. Fails where memory is refused.
     fn place(
         &self,
         alloc: Global,
         inputs: &[bool],
-        values: &[Option<bool>],
+        values: &[bool],
         suspect: &Suspect,
     ) -> Result<Option<Place>, AllocError>
+        requires size { length values.now ≡ steps_in self.now.pair }
         requires values { AreValues self.now.pair (input_values self.now.pair inputs.now) values.now }
-        ensures { IfOk result (λ found. IfSome found (IsPlace self.now (input_values self.now.pair inputs.now))) }
+        ensures places { IfOk result (λ found. IfSome found (IsPlace self.now (input_values self.now.pair inputs.now))) }
+        ensures told { suspect.now.step < steps_in self.now.pair → IfOk result (λ found. IsSome found) }
     {
         let step = suspect.step;
         if step >= self.steps.len() {
             return Ok(None);
         }
-        let Some(value) = value_in(values, step) else {
-            return Ok(None);
-        };
-        let Some(columns) = self.columns(alloc, inputs, values, step)? else {
-            return Ok(None);
-        };
+        let value = values[step as usize];
+        let columns = self.columns(alloc, inputs, values, step)?;
         Ok(Some(Place {
             step,
             value,

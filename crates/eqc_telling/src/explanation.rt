@@ -7,7 +7,7 @@
 
 use crate::warning::{first_source, second_source};
 use eqc_blif::{Finding as TextFinding, Library};
-use eqc_case::{Bordered, Compared, Diagnostics, Located, Netlist};
+use eqc_case::{Bordered, Case, Compared, Diagnostics, Located, Netlist};
 use eqc_diagnosis::{
     Design, Designs, LISTED, Lines, Shown, Whole, say_border, say_briefly, say_places, say_sharing,
     say_unplaced,
@@ -714,7 +714,7 @@ impl<'a> Diagnostics for Explanation<'a> {
         }
     }
 
-    fn undecided(&mut self, left: &Undecided) {
+    fn undecided(&mut self, _stop: Stop, _case: &Case<'_>, left: &Undecided) {
         if left.left().count > 0 {
             let _ = self.tell_left(left.left());
         }

@@ -1,4 +1,4 @@
-use Rattle.eqc_place.proofs.PlaceLaws.{IsReading}
+use Rattle.eqc_place.proofs.ToldLaws.{IsReading}
 use Rattle.eqc_place.proofs.told.values_in.Given as goal
 
 abbrev pub invariant-loop-c : goal.invariant-loop-c

@@ -1,5 +1,5 @@
 use Rattle.eqc_pair.specs.PairOf.{input_values}
-use Rattle.eqc_place.proofs.PlaceLaws.{IsFilling}
+use Rattle.eqc_place.proofs.ToldLaws.{IsFilling}
 use Rattle.eqc_place.proofs.told.values_under.Given as goal
 
 abbrev pub invariant-loop-step : goal.invariant-loop-step
