@@ -38,7 +38,7 @@ use crate::workers::{
     goes_on_alone, has_large_room, has_many_inputs, has_some_inputs, is_full,
 };
 use eqc_compare::{Alike, Progress, Stage, alike_or_nothing, known_outcome};
-use eqc_inside::{Conflicts, Inside, Rounds, Searched, Span, Terms};
+use eqc_inside::{Conflicts, Inside, Patience, Rounds, Searched, Span, Terms};
 use eqc_report::{Options, Report, Undecided, found_report, note_seen};
 use eqc_tree::Stop;
 use std::sync::Wait;
@@ -401,6 +401,7 @@ fn by_inner_sums<R: Threads + Wait + Sync, P: Progress<R> + Sync>(
     inside: &mut Inside<'_>,
     alike: &mut Alike,
     rounds: &Rounds,
+    patience: Patience,
 ) -> Result<Report, Stop>
     requires inside { inside.old ≡ comparison.now.pair.now }
     requires known { IsKnown comparison.now.pair.now alike.old }
@@ -417,7 +418,7 @@ fn by_inner_sums<R: Threads + Wait + Sync, P: Progress<R> + Sync>(
         ..
     } = *comparison;
     let conflicts = u64::from(options.conflicts);
-    let shown = inside.add_up_inside(rt, alloc, alike, conflicts, watch);
+    let shown = inside.add_up_inside(rt, alloc, alike, conflicts, patience, watch);
     if !matches!(shown, Ok(true)) {
         return Err(Stop::NodeLimit);
     }
@@ -540,6 +541,10 @@ fn by_sweeping<R: Threads + Wait + Sync, P: Progress<R> + Sync>(
         Err(Stop::NodeLimit) => {}
         report => return report,
     }
+    match by_inner_sums(comparison, inside, alike, rounds, Patience::Little) {
+        Err(Stop::NodeLimit) => {}
+        report => return report,
+    }
     match in_room(comparison, Room::Large, alike) {
         Err(Stop::NodeLimit) => {}
         report => return report,
@@ -561,7 +566,7 @@ fn by_sweeping<R: Threads + Wait + Sync, P: Progress<R> + Sync>(
             report => return report,
         }
     }
-    match by_inner_sums(comparison, inside, alike, rounds) {
+    match by_inner_sums(comparison, inside, alike, rounds, Patience::Much) {
         Err(Stop::NodeLimit) => {}
         report => return report,
     }

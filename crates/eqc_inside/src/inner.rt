@@ -35,6 +35,12 @@ const LOOKS: u32 = 3;
 /// So often two words are tried, each time with other patterns and with the other one first.
 const TURNS: u32 = 4;
 
+/// In a short look a graph has at most so many nodes, and a word this part of all that it may
+/// take.
+const FEW_NODES: u32 = 40_000;
+
+const PART: u32 = 8;
+
 /// So many sums that look alike and aren't found equal are worth a look.
 const SOME: u32 = 4;
 
@@ -88,21 +94,70 @@ fn note_word(
     }
 }
 
-/// Whether two words are shown equal in one of the turns. Fails where memory is refused.
+/// Whether two words are shown equal in one of so many turns. Fails where memory is refused.
 fn is_shown(
     alloc: Global,
     graph: &Graph,
     word: &Lookalikes,
     limits: Limits,
+    turns: u32,
 ) -> Result<bool, AllocError>
     ensures { IfOk result (λ is. IsTrue is → AreEqualWords graph.now word.now.firsts.items word.now.seconds.items) }
 {
-    'turns: for turn in 0..TURNS {
+    'turns: for turn in 0..turns {
         if are_shown_equal(alloc, graph, &word.firsts, &word.seconds, limits, turn)? {
             return Ok(true);
         }
     }
     Ok(false)
+}
+
+/// How long it is looked for words.
+#[derive(Clone, Copy, PartialEq, Eq, Debug)]
+pub enum Patience {
+    /// Until the first one isn't shown equal at once, in a graph that isn't large: a run that has
+    /// none takes little longer.
+    Little,
+    /// Until several aren't, each in several turns.
+    Much,
+}
+
+impl Patience {
+    fn turns(self) -> u32 {
+        match self {
+            Patience::Little => 1,
+            Patience::Much => TURNS,
+        }
+    }
+
+    fn most_failed(self) -> u32 {
+        match self {
+            Patience::Little => 1,
+            Patience::Much => MOST_FAILED,
+        }
+    }
+
+    fn most_nodes(self) -> u32 {
+        match self {
+            Patience::Little => FEW_NODES,
+            Patience::Much => MOST_NODES,
+        }
+    }
+
+    /// The limits for words in a graph of so many nodes.
+    fn limits(self, nodes: u32, conflicts: u64) -> Limits {
+        let limits = limits_in(nodes, conflicts);
+        match self {
+            Patience::Little => Limits {
+                steps: limits.steps / PART,
+                terms: limits.terms / PART as usize,
+                conflicts: limits.conflicts / u64::from(PART),
+                work: limits.work / u64::from(PART),
+                ..limits
+            },
+            Patience::Much => limits,
+        }
+    }
 }
 
 /// In what it is looked for words: in what these outputs of a pair are made of.
@@ -112,6 +167,7 @@ struct Look<'a> {
     steps: &'a Steps<'a>,
     outputs: &'a [usize],
     conflicts: u64,
+    patience: Patience,
 }
 
 /// What stands for the literals of steps since words that look alike are shown equal, one by one,
@@ -127,16 +183,17 @@ fn shown_of<R, P: Progress<R>>(
 ) -> Result<Option<Vec<Option<u32>>>, AllocError>
     ensures { (p : PairOf) → AreLiterals p graph.now literals.now → IfOk result (λ found. IfSome found (λ shown. TellEqual p shown.items)) }
 {
-    let limits = limits_in(graph.len(), look.conflicts);
+    let limits = look.patience.limits(graph.len(), look.conflicts);
+    let turns = look.patience.turns();
     let mut shown = vec![in look.alloc; None; literals.len()]?;
     let mut some = false;
     let mut failed = 0u32;
     'words: for k in 0..words.len() {
-        if failed >= MOST_FAILED {
+        if failed >= look.patience.most_failed() {
             break;
         }
         watch.step(rt, k, words.len());
-        if is_shown(look.alloc, graph, &words[k], limits)? {
+        if is_shown(look.alloc, graph, &words[k], limits, turns)? {
             note_word(graph, literals, &mut shown, &words[k]);
             some = true;
         } else {
@@ -162,7 +219,7 @@ fn shown_in<R, P: Progress<R>>(
     watch.stage(rt, Stage::Sweeping);
     let literals = entered(rt, look.alloc, look.steps, marks, plain, watch)?;
     let graph = plain.graph();
-    let limits = limits_in(graph.len(), look.conflicts);
+    let limits = look.patience.limits(graph.len(), look.conflicts);
     let Literals { firsts, seconds } = literals_of(
         look.alloc,
         look.steps,
@@ -208,11 +265,16 @@ impl<'a> Inside<'a> {
     /// Whether sums inside look alike that weren't found equal and aren't made of what looks alike,
     /// in a graph that has something like adders and isn't too large. Nothing is promised of it.
     /// Fails where memory is refused.
-    fn has_lookalikes(&self, alloc: Global, marks: &[bool]) -> Result<bool, AllocError>
+    fn has_lookalikes(
+        &self,
+        alloc: Global,
+        marks: &[bool],
+        patience: Patience,
+    ) -> Result<bool, AllocError>
         requires { AreEqualOutputs self.now marks.now }
     {
         let graph = self.sweep.graph();
-        if graph.len() > MOST_NODES {
+        if graph.len() > patience.most_nodes() {
             return Ok(false);
         }
         let open = open_literals(alloc, &self.steps, &self.literals, marks, 1)?;
@@ -235,22 +297,23 @@ impl<'a> Inside<'a> {
     /// Chooses signals of the first netlist in place of signals of the second one, where words to
     /// which these belong are shown equal by what they add up to: whether some are. Words are found
     /// by adders, of signals that look alike. Where nothing looks like that it is left at a look;
-    /// else it takes work in proportion to the conflicts, in up to three looks, each of which goes
-    /// on from what was shown before. The watch is told of each step that enters, and of each word.
-    /// Fails where memory is refused; what was chosen before stays then.
+    /// else it takes work in proportion to the conflicts, less with little patience, in up to three
+    /// looks, each of which goes on from what was shown before. The watch is told of each step that
+    /// enters, and of each word. Fails where memory is refused; what was chosen before stays then.
     pub fn add_up_inside<R, P: Progress<R>>(
         &self,
         rt: &R,
         alloc: Global,
         alike: &mut Alike,
         conflicts: u64,
+        patience: Patience,
         watch: &P,
     ) -> Result<bool, AllocError>
         requires { IsKnown self.now alike.old }
         ensures known { IsKnown self.now alike.new }
         ensures marks { alike.new.equal ≡ alike.old.equal }
     {
-        if !self.has_lookalikes(alloc, &alike.equal)? {
+        if !self.has_lookalikes(alloc, &alike.equal, patience)? {
             return Ok(false);
         }
         let pair = self.steps.pair();
@@ -264,6 +327,7 @@ impl<'a> Inside<'a> {
                 steps: &steps,
                 outputs: &outputs,
                 conflicts,
+                patience,
             };
             let Some(shown) = shown_below(rt, &look, watch)? else {
                 break;
