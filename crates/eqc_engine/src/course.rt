@@ -7,14 +7,14 @@
 //! | 2 | diagrams on one thread; in the larger room too where there are very many inputs and many outputs began | `first_diagrams` | all outputs, where they fit |
 //! | 3 | short rounds of sweeping, and a short search that refutes after each | `Inside::of`, `sweep_more`, `ask_while_found` | outputs that are found equal |
 //! | 4 | a short search, where simulation saw an output differ | `by_search` | all outputs, or all up to the first that differs |
-//! | 5 | words of outputs that add up the same | `by_sums` | outputs whose words are shown equal |
+//! | 5 | words of outputs that add up the same, and a short look for words inside that do | `by_sums`, `by_inner_sums` | outputs whose words are shown equal, and the same as 3 |
 //! | 6 | 2 in a larger room | `in_room` | the outputs left, where they fit |
 //! | 7 | rounds of sweeping that take no longer than 8, where there are few inputs | `sweep_more` | the same as 3 |
 //! | 8 | diagrams by one worker who takes dead nodes back, where there are few inputs or very many | `in_room` | the outputs left, where they fit |
 //! | 9 | long rounds of sweeping, as long as they find nodes equal | `sweep_more` | the same as 3 |
 //! | 10 | short searches | `by_search` | the same as 4 |
 //! | 11 | diagrams by all workers, and where these don't fit by one of them | `in_room` | the outputs left, where they fit |
-//! | 12 | words inside that add up the same, and a round of sweeping over them | `by_inner_sums` | the same as 3 |
+//! | 12 | a long look for words inside that add up the same, and a round of sweeping over them | `by_inner_sums` | the same as 3 |
 //! | 13 | a longer search that refutes | `ask_outputs` | outputs that are found equal |
 //! | 14 | longer searches | `by_search` | the same as 4 |
 //! | 15 | diagrams by all workers once more, where 13 found some outputs equal | `in_room` | the outputs left, where they fit |
