@@ -171,7 +171,7 @@ fn finish<W: Write, T: Diagnostics>(
     out: &mut W,
     told: Option<&mut T>,
 ) -> Result<Finished, RunFault>
-    requires left { IsLeftBeside reported.entry.case reported.entry.told.report reported.entry.left }
+    requires left { IsLeftBeside reported.case reported.told.report reported.left }
     ensures written { IfOk result (λ finished. IsWritten (report_of reported.entry.told.report) (W.contents out.old) (W.contents out.new) finished.status) }
     ensures warned { IfOk result (λ finished. finished.warnings ≡ warnings_at finished.status reported.entry.told.warnings) }
     ensures part { OnErr result (IsCutShort (report_of reported.entry.told.report) (W.contents out.old) (W.contents out.new)) }
