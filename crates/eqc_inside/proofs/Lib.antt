@@ -3,3 +3,4 @@ pub mod SearchingLaws
 pub mod AskingLaws
 pub mod RoundLaws
 pub mod AddingLaws
+pub mod EnteringLaws

@@ -1,14 +1,17 @@
 //! Which steps of a pair enter its graph, and how they do.
-ghost use Rattle.std.specs.Prelude.{◌≡◌, ◌≤◌, length, IfOk};
+ghost use Rattle.std.specs.Prelude.{◌≡◌, ◌≤◌, List, Some, length, IfOk, IfSome};
+ghost use Rattle.eqc_pair.specs.PairOf.{PairOf};
+ghost use Rattle.eqc_build.specs.Building.{reference_of};
+ghost use Rattle.eqc_graph.specs.declared.node.Node.{Node};
 ghost use Rattle.eqc_compare.specs.Alike.{AreEqual, IsKnown};
-ghost use Rattle.eqc_gates.specs.Entering.{AreClosed};
+ghost use Rattle.eqc_gates.specs.Entering.{AreClosed, AreLiterals};
 ghost use Rattle.eqc_inside.specs.Inside.{IsInside};
 
-use crate::inside::{Inside, Owned};
+use crate::inside::Inside;
 use crate::rounds::Rounds;
 use crate::searching::difference_literal;
 use eqc_build::Steps;
-use eqc_compare::{Alike, Progress, is_settled};
+use eqc_compare::{Alike, Progress, is_marked, is_settled};
 use eqc_gates::{literals, needed, needed_within};
 use eqc_pair::Pair;
 use eqc_sweep::{Effort, Sweep};
@@ -96,15 +99,6 @@ fn differences(
     Ok((found, outputs))
 }
 
-/// What is to enter a graph.
-#[derive(Drop)]
-struct Wanted {
-    /// The steps that do.
-    marks: Vec<bool>,
-    /// The work that it took to see that others needn't.
-    work: u64,
-}
-
 /// Enters the marked steps into a graph, of which nobody is told, and answers their literals. Fails
 /// where memory is refused.
 fn entered_untold(
@@ -121,71 +115,50 @@ fn entered_untold(
     literals(alloc, steps, marks, sweep, &ignored)
 }
 
-/// The first of some outputs that is seen to differ under pseudo-random values in a graph to which
-/// the marked steps are added, if one is: others may differ before it. The work that it took is
-/// added to what there is. Fails where memory is refused.
-fn first_seen_in(
+/// The first of some outputs that is seen to differ under pseudo-random values, if one is: others
+/// may differ before it. The literals of their differences are added to the graph. Fails where
+/// memory is refused.
+fn first_seen(
     alloc: Global,
     steps: &Steps<'_>,
-    marks: &[bool],
-    wanted: &[bool],
     sweep: &mut Sweep,
-    work: &mut u64,
+    literals: &[Option<u32>],
+    wanted: &[bool],
 ) -> Result<Option<usize>, AllocError>
-    requires closed { AreClosed steps.now marks.now }
+    requires inside { IsInside steps.now sweep.old literals.now }
     requires outputs { length wanted.now ≤ length steps.now.pair.first.outputs }
+    ensures { IsInside steps.now sweep.new literals.now }
 {
-    let literals = entered_untold(alloc, steps, marks, sweep)?;
-    let (found, outputs) = differences(alloc, steps, sweep, &literals, wanted)?;
-    *work = work.saturating_add(work_seeing(sweep.graph().len()));
+    let (found, outputs) = differences(alloc, steps, sweep, literals, wanted)?;
     let Some(place) = first_shown(alloc, sweep.graph(), &found)? else {
         return Ok(None);
     };
     Ok(outputs.get(place).copied())
 }
 
-/// The same in a graph of the marked steps alone, in which nothing is asked. It stands apart for
-/// its proof's sake: where a graph is let go in each exit that takes many times longer.
-fn first_seen(
-    alloc: Global,
-    steps: &Steps<'_>,
-    marks: &[bool],
-    wanted: &[bool],
-    work: &mut u64,
-) -> Result<Option<usize>, AllocError>
-    requires closed { AreClosed steps.now marks.now }
-    requires outputs { length wanted.now ≤ length steps.now.pair.first.outputs }
+/// The literal of a step, where it has one and is marked.
+fn of_marked(literals: &[Option<u32>], marks: &[bool], step: usize) -> Option<u32>
+    ensures { IfSome result (λ l. reference_of literals.now step ≡ Some l) }
 {
-    let mut plain = Owned {
-        sweep: Sweep::new(alloc, Effort::none())?,
-    };
-    first_seen_in(alloc, steps, marks, wanted, &mut plain.sweep, work)
+    if !is_marked(marks, step) {
+        return None;
+    }
+    literals.get(step).copied().flatten()
 }
 
-/// Which steps enter for the chosen outputs of a pair that are not marked as equal: unless `every`
-/// one that differs is looked for, without those that only outputs behind the first need that is
-/// seen to differ. No step is marked where too much would enter. Fails where memory is refused.
-fn entering(
+/// The literals of the marked steps alone. Fails where memory is refused.
+fn only_marked(
     alloc: Global,
-    steps: &Steps<'_>,
-    equal: &[bool],
-    every: bool,
-) -> Result<Wanted, AllocError>
-    requires { AreEqual steps.now.pair equal.now }
-    ensures { IfOk result (λ wanted. AreClosed steps.now wanted.marks.items) }
+    literals: &[Option<u32>],
+    marks: &[bool],
+) -> Result<Vec<Option<u32>>, AllocError>
+    ensures { IfOk result (λ some. (p : PairOf) (nodes : List Node) → AreLiterals p nodes literals.now → AreLiterals p nodes some.items) }
 {
-    let mut outputs = unmarked(alloc, steps.pair(), equal)?;
-    let marks = needed_within(alloc, steps, &outputs, CHARACTERS)?;
-    let mut work = 0;
-    if every {
-        return Ok(Wanted { marks, work });
+    let mut some = Vec::with_capacity(alloc, literals.len())?;
+    for step in 0..literals.len() {
+        some.push(of_marked(literals, marks, step))?;
     }
-    let Some(last) = first_seen(alloc, steps, &marks, &outputs, &mut work)? else {
-        return Ok(Wanted { marks, work });
-    };
-    unmark_behind(&mut outputs, last);
-    let marks = needed(alloc, steps, &outputs)?;
-    Ok(Wanted { marks, work })
+    Ok(some)
 }
 
 /// Enters the marked steps into a graph, and answers their literals. The watch is told of each
@@ -225,17 +198,37 @@ impl<'a> Inside<'a> {
         })
     }
 
-    /// Enters the steps that outputs need, into a graph in which nothing is asked yet, and answers
-    /// the work that it took to see that others aren't needed. Fails where memory is refused: no
-    /// step has a literal then.
+    /// Enters the steps that the chosen outputs need which are not marked as equal, into a graph in
+    /// which nothing is asked yet, and answers the work that it took to see which outputs differ:
+    /// unless `every` one that differs is looked for, steps have no literal which only outputs
+    /// behind the first need that is seen to differ. None enters where too much would. Fails where
+    /// memory is refused.
     fn enter(&mut self, alloc: Global, alike: &Alike, every: bool) -> Result<u64, AllocError>
         requires { IsKnown self.old alike.now }
         ensures { self.new ≡ self.old }
     {
-        let wanted = entering(alloc, &self.steps, &alike.equal, every)?;
+        let mut outputs = unmarked(alloc, self.steps.pair(), &alike.equal)?;
+        let marks = needed_within(alloc, &self.steps, &outputs, CHARACTERS)?;
         self.literals = Vec::new(alloc);
-        self.literals = entered_untold(alloc, &self.steps, &wanted.marks, &mut self.sweep)?;
-        Ok(wanted.work)
+        self.literals = entered_untold(alloc, &self.steps, &marks, &mut self.sweep)?;
+        if every {
+            return Ok(0);
+        }
+        let seen = first_seen(
+            alloc,
+            &self.steps,
+            &mut self.sweep,
+            &self.literals,
+            &outputs,
+        )?;
+        let work = work_seeing(self.sweep.graph().len());
+        let Some(last) = seen else {
+            return Ok(work);
+        };
+        unmark_behind(&mut outputs, last);
+        let marks = needed(alloc, &self.steps, &outputs)?;
+        self.literals = only_marked(alloc, &self.literals, &marks)?;
+        Ok(work)
     }
 
     /// Enters the steps that outputs need, sweeps them in a first round, and allows searches. Fails
