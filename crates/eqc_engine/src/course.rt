@@ -36,7 +36,7 @@ use crate::workers::{
     has_large_room, has_some_inputs,
 };
 use eqc_compare::{Alike, Progress, Stage, alike_or_nothing, known_outcome};
-use eqc_inside::{Conflicts, Inside, Rounds, Searched, Span, Terms};
+use eqc_inside::{Conflicts, Inside, Patience, Rounds, Searched, Span, Terms};
 use eqc_report::{Options, Report, Undecided, found_report, note_seen};
 use eqc_tree::Stop;
 use std::sync::Wait;
@@ -367,6 +367,7 @@ fn by_inner_sums<R: Threads + Wait + Sync, P: Progress<R> + Sync>(
     inside: &mut Inside<'_>,
     alike: &mut Alike,
     rounds: &Rounds,
+    patience: Patience,
 ) -> Result<Report, Stop>
     requires inside { inside.old ≡ comparison.now.pair.now }
     requires known { IsKnown comparison.now.pair.now alike.old }
@@ -384,7 +385,7 @@ fn by_inner_sums<R: Threads + Wait + Sync, P: Progress<R> + Sync>(
     } = *comparison;
     let conflicts = u64::from(options.conflicts);
     if !matches!(
-        inside.add_up_inside(rt, alloc, alike, conflicts, watch),
+        inside.add_up_inside(rt, alloc, alike, conflicts, patience, watch),
         Ok(true)
     ) {
         return Err(Stop::NodeLimit);
@@ -510,6 +511,10 @@ fn by_sweeping<R: Threads + Wait + Sync, P: Progress<R> + Sync>(
         Err(Stop::NodeLimit) => {}
         report => return report,
     }
+    match by_inner_sums(comparison, inside, alike, rounds, Patience::Little) {
+        Err(Stop::NodeLimit) => {}
+        report => return report,
+    }
     match in_room(comparison, Room::Large, alike) {
         Err(Stop::NodeLimit) => {}
         report => return report,
@@ -531,7 +536,7 @@ fn by_sweeping<R: Threads + Wait + Sync, P: Progress<R> + Sync>(
             report => return report,
         }
     }
-    match by_inner_sums(comparison, inside, alike, rounds) {
+    match by_inner_sums(comparison, inside, alike, rounds, Patience::Much) {
         Err(Stop::NodeLimit) => {}
         report => return report,
     }

@@ -35,6 +35,11 @@ const LOOKS: u32 = 3;
 /// So often two words are tried, each time with other patterns and with the other one first.
 const TURNS: u32 = 4;
 
+/// In a short look graphs have at most so many nodes, and questions this part of the work.
+const FEW_NODES: u32 = 40_000;
+
+const PART: u64 = 8;
+
 /// So many sums that look alike and aren't found equal are worth a look.
 const SOME: u32 = 4;
 
@@ -88,21 +93,67 @@ fn note_word(
     }
 }
 
-/// Whether two words are shown equal in one of the turns. Fails where memory is refused.
+/// Whether two words are shown equal in one of so many turns. Fails where memory is refused.
 fn is_shown(
     alloc: Global,
     graph: &Graph,
     word: &Lookalikes,
     limits: Limits,
+    turns: u32,
 ) -> Result<bool, AllocError>
     ensures { IfOk result (λ is. IsTrue is → AreEqualWords graph.now word.now.firsts.items word.now.seconds.items) }
 {
-    'turns: for turn in 0..TURNS {
+    'turns: for turn in 0..turns {
         if are_shown_equal(alloc, graph, &word.firsts, &word.seconds, limits, turn)? {
             return Ok(true);
         }
     }
     Ok(false)
+}
+
+/// How long it is looked for words.
+#[derive(Clone, Copy, PartialEq, Eq, Debug)]
+pub enum Patience {
+    /// Until the first one isn't shown equal at once, in a graph that isn't large: so a run that
+    /// has none takes little longer.
+    Little,
+    /// Until several aren't, each in several turns.
+    Much,
+}
+
+impl Patience {
+    fn turns(self) -> u32 {
+        match self {
+            Patience::Little => 1,
+            Patience::Much => TURNS,
+        }
+    }
+
+    fn most_failed(self) -> u32 {
+        match self {
+            Patience::Little => 1,
+            Patience::Much => MOST_FAILED,
+        }
+    }
+
+    fn most_nodes(self) -> u32 {
+        match self {
+            Patience::Little => FEW_NODES,
+            Patience::Much => MOST_NODES,
+        }
+    }
+
+    /// The limits for words in a graph of so many nodes.
+    fn limits(self, nodes: u32, conflicts: u64) -> Limits {
+        let limits = limits_in(nodes, conflicts);
+        match self {
+            Patience::Little => Limits {
+                work: limits.work / PART,
+                ..limits
+            },
+            Patience::Much => limits,
+        }
+    }
 }
 
 /// In what it is looked for words: in what these outputs of a pair are made of.
@@ -112,6 +163,50 @@ struct Look<'a> {
     steps: &'a Steps<'a>,
     outputs: &'a [usize],
     conflicts: u64,
+    patience: Patience,
+}
+
+/// A word with one more pair of literals above it. Fails where memory is refused.
+fn with_top(
+    alloc: Global,
+    word: &Lookalikes,
+    first: u32,
+    second: u32,
+) -> Result<Lookalikes, AllocError> {
+    let mut longer = Lookalikes {
+        firsts: word.firsts.clone()?,
+        seconds: word.seconds.clone()?,
+        tops: Vec::new(alloc),
+    };
+    longer.firsts.push(first)?;
+    longer.seconds.push(second)?;
+    Ok(longer)
+}
+
+/// Notes what stands for the literals of steps, where a word is shown equal with one more pair of
+/// literals above it. Fails where memory is refused.
+fn note_top(
+    alloc: Global,
+    graph: &Graph,
+    literals: &[Option<u32>],
+    shown: &mut Vec<Option<u32>>,
+    word: &Lookalikes,
+    limits: Limits,
+) -> Result<(), AllocError>
+    ensures { (p : PairOf) → AreLiterals p graph.now literals.now → AreLiterals p graph.now shown.old.items → AreLiterals p graph.now shown.new.items }
+{
+    'tops: for k in 0..word.tops.len() {
+        let (first, second) = word.tops[k];
+        if node_of(first) == 0 || node_of(second) == 0 {
+            continue;
+        }
+        let longer = with_top(alloc, word, first, second)?;
+        if is_shown(alloc, graph, &longer, limits, 1)? {
+            note_word(graph, literals, shown, &longer);
+            break;
+        }
+    }
+    Ok(())
 }
 
 /// What stands for the literals of steps since words that look alike are shown equal, one by one,
@@ -127,19 +222,21 @@ fn shown_of<R, P: Progress<R>>(
 ) -> Result<Option<Vec<Option<u32>>>, AllocError>
     ensures { (p : PairOf) → AreLiterals p graph.now literals.now → IfOk result (λ found. IfSome found (λ shown. TellEqual p shown.items)) }
 {
-    let limits = limits_in(graph.len(), look.conflicts);
+    let limits = look.patience.limits(graph.len(), look.conflicts);
+    let turns = look.patience.turns();
     let mut shown = vec![in look.alloc; None; literals.len()]?;
     let mut some = false;
     let mut failed = 0u32;
     'words: for k in 0..words.len() {
         watch.step(rt, k, words.len());
-        if is_shown(look.alloc, graph, &words[k], limits)? {
+        if is_shown(look.alloc, graph, &words[k], limits, turns)? {
             note_word(graph, literals, &mut shown, &words[k]);
+            note_top(look.alloc, graph, literals, &mut shown, &words[k], limits)?;
             some = true;
         } else {
             failed = failed.saturating_add(1);
         }
-        if failed >= MOST_FAILED {
+        if failed >= look.patience.most_failed() {
             break;
         }
     }
@@ -162,9 +259,13 @@ fn shown_in<R, P: Progress<R>>(
     watch.stage(rt, Stage::Sweeping);
     let literals = entered(rt, look.alloc, look.steps, marks, plain, watch)?;
     let graph = plain.graph();
-    let limits = limits_in(graph.len(), look.conflicts);
-    let Literals { firsts, seconds } =
-        literals_of(look.alloc, look.steps, &literals, look.outputs)?;
+    let limits = look.patience.limits(graph.len(), look.conflicts);
+    let Literals { firsts, seconds } = literals_of(
+        look.alloc,
+        look.steps,
+        &literals,
+        look.outputs,
+    )?;
     let words = find_lookalikes(look.alloc, graph, &firsts, &seconds, limits)?;
     watch.stage(rt, Stage::Adding);
     shown_of(rt, look, graph, &literals, &words, watch)
@@ -204,11 +305,16 @@ impl<'a> Inside<'a> {
     /// Whether sums inside look alike that weren't found equal and aren't made of what looks alike,
     /// in a graph that has something like adders and isn't too large. Nothing is promised of it.
     /// Fails where memory is refused.
-    fn has_lookalikes(&self, alloc: Global, marks: &[bool]) -> Result<bool, AllocError>
+    fn has_lookalikes(
+        &self,
+        alloc: Global,
+        marks: &[bool],
+        patience: Patience,
+    ) -> Result<bool, AllocError>
         requires { AreEqualOutputs self.now marks.now }
     {
         let graph = self.sweep.graph();
-        if graph.len() > MOST_NODES {
+        if graph.len() > patience.most_nodes() {
             return Ok(false);
         }
         let open = open_literals(alloc, &self.steps, &self.literals, marks, 1)?;
@@ -239,13 +345,14 @@ impl<'a> Inside<'a> {
         alloc: Global,
         alike: &mut Alike,
         conflicts: u64,
+        patience: Patience,
         watch: &P,
     ) -> Result<bool, AllocError>
         requires { IsKnown self.now alike.old }
         ensures known { IsKnown self.now alike.new }
         ensures marks { alike.new.equal ≡ alike.old.equal }
     {
-        if !self.has_lookalikes(alloc, &alike.equal)? {
+        if !self.has_lookalikes(alloc, &alike.equal, patience)? {
             return Ok(false);
         }
         let pair = self.steps.pair();
@@ -259,6 +366,7 @@ impl<'a> Inside<'a> {
                 steps: &steps,
                 outputs: &outputs,
                 conflicts,
+                patience,
             };
             let Some(shown) = shown_below(rt, &look, watch)? else {
                 break;

@@ -23,6 +23,7 @@ mod outputs;
 mod rounds;
 mod searching;
 
+pub use inner::Patience;
 pub use inside::Inside;
 pub use rounds::{Rounds, Span};
 pub use searching::{Conflicts, Searched, Terms};

@@ -20,6 +20,9 @@ use std::alloc::{AllocError, Global};
 pub struct Lookalikes {
     pub firsts: Vec<u32>,
     pub seconds: Vec<u32>,
+    /// Literals that look alike in the column above them, of which no adder is known: the highest
+    /// sum of a word has no carry that anything depends on.
+    pub tops: Vec<(u32, u32)>,
 }
 
 /// A node of the first netlist and one of the second that look alike, where one of them is the sum
@@ -30,6 +33,8 @@ struct Bit {
     /// middle of all.
     base: u32,
     column: u32,
+    /// Whether no adder is known of which either is the sum.
+    is_top: bool,
     /// Above how many others it is, or `SHARED`.
     level: u32,
     first: u32,
@@ -50,6 +55,9 @@ impl Bit {
 
 /// The column of a base: others are below it or above.
 const MIDDLE: u32 = 1 << 31;
+
+/// So many literals of the column above a word are tried.
+const MOST_TOPS: usize = 2;
 
 /// Words of fewer bits aren't looked at.
 const LEAST_BITS: usize = 2;
@@ -159,9 +167,44 @@ fn bit_of(adders: &Adders, frames: &Frames, first: u32, second: u32) -> Option<B
     Some(Bit {
         base,
         column: column.wrapping_add(MIDDLE),
+        is_top: false,
         level: adders.level(node),
         first: negated_if(first, turned),
         second: negated_if(second.wrapping_mul(2), turned),
+        is_near: false,
+    })
+}
+
+/// How a node stands to others that is a carry, or an exclusive or of one or of a sum.
+fn frame_above(adders: &Adders, frames: &Frames, node: u32) -> Option<Frame> {
+    if adders.is_carry(node) {
+        return Some(frames.of(node));
+    }
+    for (x, y) in &adders.known(node)?.pairs {
+        for operand in [node_of(*x), node_of(*y)] {
+            if is_added(adders, operand) || adders.is_carry(operand) {
+                return Some(frames.of(operand));
+            }
+        }
+    }
+    None
+}
+
+/// Two nodes that look alike, the literal of the first of which looks like the second one, as what
+/// may come next above a word. Either literal does there: a sum modulo two is the same with both
+/// turned.
+fn top_of(adders: &Adders, frames: &Frames, first: u32, second: u32) -> Option<Bit> {
+    let frame = match frame_above(adders, frames, node_of(first)) {
+        None => frame_above(adders, frames, second)?,
+        Some(frame) => frame,
+    };
+    Some(Bit {
+        base: frame.base,
+        column: frame.column.wrapping_add(MIDDLE),
+        is_top: true,
+        level: adders.level(second),
+        first,
+        second: second.wrapping_mul(2),
         is_near: false,
     })
 }
@@ -186,6 +229,7 @@ fn shared_bit(frames: &Frames, node: u32) -> Bit {
     Bit {
         base,
         column: column.wrapping_add(MIDDLE),
+        is_top: false,
         level: SHARED,
         first: 0,
         second: 0,
@@ -228,6 +272,8 @@ fn bits_of(
         if let Some(bit) = bit_of(adders, frames, first, node) {
             let is_near = is_made_alike(sweep, &of_first, node);
             bits.push(Bit { is_near, ..bit })?;
+        } else if let Some(bit) = top_of(adders, frames, first, node) {
+            bits.push(bit)?;
         }
     }
     Ok(bits)
@@ -258,6 +304,16 @@ fn pad(word: &mut Lookalikes, count: u32) -> Result<(), AllocError> {
     Ok(())
 }
 
+/// Puts those of the bits into a word that may come next above it, in this column: the last ones.
+fn put_tops(word: &mut Lookalikes, bits: &[Bit], column: u32) -> Result<(), AllocError> {
+    for bit in bits.iter().rev() {
+        if bit.is_top && bit.column == column && word.tops.len() < MOST_TOPS {
+            word.tops.push((bit.first, bit.second))?;
+        }
+    }
+    Ok(())
+}
+
 /// The word of bits of one base, the lowest column first, in each of which the first one counts,
 /// from this column on. It ends before a column in which there is none, and where it has as many
 /// literals as a word may have.
@@ -265,10 +321,12 @@ fn word_of(alloc: Global, bits: &[Bit], lowest: u32) -> Result<Lookalikes, Alloc
     let mut word = Lookalikes {
         firsts: Vec::new(alloc),
         seconds: Vec::new(alloc),
+        tops: Vec::new(alloc),
     };
     let mut next = lowest;
     'bits: for bit in bits {
-        if bit.column < next || (word.firsts.is_empty() && bit.is_shared()) {
+        let is_first = word.firsts.is_empty();
+        if bit.is_top || bit.column < next || (is_first && bit.is_shared()) {
             continue;
         }
         let skipped = bit.column - next;
@@ -283,6 +341,7 @@ fn word_of(alloc: Global, bits: &[Bit], lowest: u32) -> Result<Lookalikes, Alloc
         word.seconds.push(bit.second)?;
         next = bit.column.saturating_add(1);
     }
+    put_tops(&mut word, bits, next)?;
     Ok(word)
 }
 
@@ -310,7 +369,10 @@ pub(crate) fn inner_words(
             .unwrap_or(MIDDLE);
         let own = &bits[from..to];
         let near = own.iter().filter(|bit| bit.is_near).count();
-        let real = own.iter().filter(|bit| !bit.is_shared()).count();
+        let real = own
+            .iter()
+            .filter(|bit| !bit.is_shared() && !bit.is_top)
+            .count();
         let word = word_of(alloc, own, low)?;
         if word.firsts.len() >= LEAST_BITS && near < real.div_ceil(2) {
             words.push(word)?;
@@ -335,15 +397,30 @@ fn origins(alloc: Global, table: &[Option<u32>], nodes: u32) -> Result<Vec<u32>,
     Ok(origins)
 }
 
+/// The literal of a graph whose copy this is, false where it has none.
+fn original(origins: &[u32], literal: u32) -> u32 {
+    let origin = origins.get(node_of(literal) as usize).copied().unwrap_or(0);
+    negated_if(origin, is_negated(literal))
+}
+
 /// The literals of a graph whose copies these are, false for those that have none.
 fn originals(alloc: Global, origins: &[u32], literals: &[u32]) -> Result<Vec<u32>, AllocError> {
     let mut all = Vec::with_capacity(alloc, literals.len())?;
     for literal in literals {
-        let origin = origins
-            .get(node_of(*literal) as usize)
-            .copied()
-            .unwrap_or(0);
-        all.push(negated_if(origin, is_negated(*literal)))?;
+        all.push(original(origins, *literal))?;
+    }
+    Ok(all)
+}
+
+/// The same for pairs of them.
+fn original_pairs(
+    alloc: Global,
+    origins: &[u32],
+    pairs: &[(u32, u32)],
+) -> Result<Vec<(u32, u32)>, AllocError> {
+    let mut all = Vec::with_capacity(alloc, pairs.len())?;
+    for (first, second) in pairs {
+        all.push((original(origins, *first), original(origins, *second)))?;
     }
     Ok(all)
 }
@@ -369,6 +446,7 @@ fn lookalikes_in(
         words.push(Lookalikes {
             firsts: originals(alloc, &origins, &word.firsts)?,
             seconds: originals(alloc, &origins, &word.seconds)?,
+            tops: original_pairs(alloc, &origins, &word.tops)?,
         })?;
     }
     Ok(words)
