@@ -1,5 +1,7 @@
 -- A result is compared, and nothing is counted.
-use Rattle.std.proofs.Common.{◌≡◌, ◌↔◌, ℕ, ◌<◌, ◌≤◌, List, [], set, nat_eq, Bool, IsTrue, Option, Some, None, IfSome, refl, sym, ap, subst, ◌∙◌, arith, inl, inr, ⊎_elim, eqb-true}
+use Rattle.std.proofs.Common.{◌≡◌, ◌↔◌, ℕ, ◌<◌, ◌≤◌, List, [], set, nat_eq, Bool, IsTrue, Option}
+use Rattle.std.proofs.Common.{Some, None, IfSome, refl, sym, ap, subst, ◌∙◌, arith, inl, inr}
+use Rattle.std.proofs.Common.{⊎_elim, eqb-true}
 use Rattle.std.proofs.lemmas.Bool.{eq-eqb}
 use mathlib.Core.Option.{some}
 use lib.ListN.{get_elem?}
@@ -32,8 +34,10 @@ held_on v u x same (inl lt) = inl lt
 held_on v u x same (inr h) = inr (subst (λ (l : List ℕ). 0 < times x l) (sym same) h)
 
 -- a snapshot that was compared tells of the operation
-pub snapshot_compares : (op : Op) (f g r : ℕ) (s : Snapshot) (old mid : Standing) (same : Bool) → IsPeeked op f g s old mid → IsHeld old.known.core r →
-    IsTrue same ↔ SameFunction (tree_of mid.known s.number) (tree_of mid.known r) → Compares op old.known f g r same
+pub snapshot_compares : (op : Op) (f g r : ℕ) (s : Snapshot) (old mid : Standing) (same : Bool)
+    → IsPeeked op f g s old mid → IsHeld old.known.core r →
+    IsTrue same ↔ SameFunction (tree_of mid.known s.number) (tree_of mid.known r)
+    → Compares op old.known f g r same
 snapshot_compares op f g r s old mid same p held told =
     let tree : tree_of mid.known r ≡ tree_of old.known r = held_keep op f g s old mid p r held in (
       λ t a. p.function a ∙ (told.0 t a ∙ ap (λ (u : Tree). value u a) tree),
@@ -41,30 +45,38 @@ snapshot_compares op f g r s old mid same p held told =
     )
 
 -- so does the number of a result
-pub number_compares : (variables : ℕ) (k : Known) (op : Op) (f g x r : ℕ) → IsKnown k → IsResult variables op k f g x → IsHeld k.core r → Compares op k f g r (nat_eq x r)
+pub number_compares : (variables : ℕ) (k : Known) (op : Op) (f g x r : ℕ) → IsKnown k
+    → IsResult variables op k f g x → IsHeld k.core r → Compares op k f g r (nat_eq x r)
 number_compares variables k op f g x r known right held = (
   λ e a. sym (right.function a) ∙ ap (λ (n : ℕ). value (tree_of k n) a) (eqb-true x r e),
   λ all. eq-eqb x r (same_names k x r known right.within held (λ a. right.function a ∙ all a)),
 )
 
 -- told of what the references say
-module _ (op : Op) (n : Held) (s t u : Standing) (f g r : ℕ) (hf : IsIn (holding_in n) (entry_in s.known f)) (hg : IsIn (holding_in n) (entry_in t.known g)) (hr : IsIn (holding_in n) (entry_in u.known r)) where
+module _ (op : Op) (n : Held) (s t u : Standing) (f g r : ℕ) (hf : IsIn (holding_in n)
+    (entry_in s.known f)) (hg : IsIn (holding_in n) (entry_in t.known g)) (hr : IsIn (holding_in n)
+    (entry_in u.known r)) where
   pub says_compares : (same : Bool) → Compares op n.worker.known f g r same
-      → IsTrue same ↔ ((a : ℕ → Bool) → operate op (says (entry_in s.known f) a) (says (entry_in t.known g) a) ≡ says (entry_in u.known r) a)
+      → IsTrue same ↔ ((a : ℕ → Bool) → operate op (says (entry_in s.known f) a)
+      (says (entry_in t.known g) a) ≡ says (entry_in u.known r) a)
   says_compares same told =
       let tree : tree_of u.known r ≡ tree_of n.worker.known r = referred_tree n u r hr in (
-        λ e a. sym (operate_referred op n s t f g hf hg a) ∙ (told.0 e a ∙ ap (λ (v : Tree). value v a) (sym tree)),
-        λ all. told.1 (λ a. operate_referred op n s t f g hf hg a ∙ (all a ∙ ap (λ (v : Tree). value v a) tree)),
+        λ e a. sym (operate_referred op n s t f g hf hg a)
+            ∙ (told.0 e a ∙ ap (λ (v : Tree). value v a) (sym tree)),
+        λ all. told.1 (λ a. operate_referred op n s t f g hf hg a
+            ∙ (all a ∙ ap (λ (v : Tree). value v a) tree)),
       )
 
   pub says_if : (o : Option Bool) → IfSome o (Compares op n.worker.known f g r)
-      → IfSome o (λ same. IsTrue same ↔ ((a : ℕ → Bool) → operate op (says (entry_in s.known f) a) (says (entry_in t.known g) a) ≡ says (entry_in u.known r) a))
+      → IfSome o (λ same. IsTrue same ↔ ((a : ℕ → Bool) → operate op (says (entry_in s.known f) a)
+      (says (entry_in t.known g) a) ≡ says (entry_in u.known r) a))
   says_if None told = tt
   says_if (Some same) told = says_compares same told
 
 -- phases that are quiet stay so where one is set to a quiet one
 quiet_at : (ps : List Phase) (k : ℕ) (p : Phase) → IsQuiet p → AreQuiet ps → AreQuiet (set ps k p)
-quiet_at ps k p quiet all j q e = ⊎_elim (λ t. subst (λ (o : Phase). IsQuiet o) t.1 quiet) (λ t. all j q t.1) (at_set ps k j p q e)
+quiet_at ps k p quiet all j q e = ⊎_elim (λ t. subst (λ (o : Phase). IsQuiet o) t.1 quiet)
+    (λ t. all j q t.1) (at_set ps k j p q e)
 
 -- a worker none of whose words announces a name holds what it held, and is at rest
 module _ (old new : Standing) (p : Passes old new) where
@@ -72,7 +84,8 @@ module _ (old new : Standing) (p : Passes old new) where
   passed_has n counts h = record {
     rest = record {
       ready = ap (λ (v : View). v.position) p.passed.stands.core ∙ h.rest.ready;
-      quiet = subst (λ (v : View). AreQuiet v.phases) (sym p.passed.stands.core) (quiet_at old.known.core.phases p.word p.passed.phase p.passed.quiet h.rest.quiet);
+      quiet = subst (λ (v : View). AreQuiet v.phases) (sym p.passed.stands.core)
+          (quiet_at old.known.core.phases p.word p.passed.phase p.passed.quiet h.rest.quiet);
       no_draft = ap (λ (v : View). v.draft) p.passed.stands.core ∙ h.rest.no_draft;
       no_hand = ap (λ (v : View). v.hand) p.passed.stands.core ∙ h.rest.no_hand;
     };

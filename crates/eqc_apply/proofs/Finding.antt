@@ -1,5 +1,6 @@
 -- Results in the cells that all workers share.
-use Rattle.std.proofs.Common.{◌≡◌, ℕ, Bool, List, [], ◌∷◌, ◌++◌, length-append, refl, sym, ap, ◌∙◌, arith}
+use Rattle.std.proofs.Common.{◌≡◌, ℕ, Bool, List, [], ◌∷◌, ◌++◌, length-append, refl, sym, ap, ◌∙◌}
+use Rattle.std.proofs.Common.{arith}
 use Rattle.eqc_tree.specs.Tree.{Tree, value}
 use Rattle.eqc_tree.specs.Operation.{operate}
 use Rattle.eqc_tree.specs.declared.operation.Op.{Op}
@@ -19,7 +20,8 @@ use Rattle.eqc_apply.proofs.Reading.{starts_below, starts_root}
 use Rattle.eqc_apply.proofs.Above.{starts_both}
 
 -- nothing was found
-pub passes : (old new : Standing) → IsPassed 0 old new → Changes [] [] old.known.core.hand old.known.core.draft old new
+pub passes : (old new : Standing) → IsPassed 0 old new
+    → Changes [] [] old.known.core.hand old.known.core.draft old new
 passes old new s = record {
   forest = s.stands.forest;
   held = old.known.core.held;
@@ -40,7 +42,8 @@ passes old new s = record {
 }
 
 -- a result was found, and is held once more
-pub hits : (op : Op) (f g r : ℕ) (old new : Standing) → IsHit op f g r old new → Changes [] (slots_of (r ∷ [])) old.known.core.hand old.known.core.draft old new
+pub hits : (op : Op) (f g r : ℕ) (old new : Standing) → IsHit op f g r old new
+    → Changes [] (slots_of (r ∷ [])) old.known.core.hand old.known.core.draft old new
 hits op f g r old new s = record {
   forest = s.forest;
   held = old.known.core.held ++ slots_of (r ∷ []);
@@ -62,8 +65,10 @@ hits op f g r old new s = record {
 
 -- it is a result among the names then
 module _ (n : ℕ) (counts : List ℕ) (op : Op) (f g r x : ℕ) (s0 s1 s2 : Standing)
-    (function : (a : ℕ → Bool) → operate op (value (tree_of s0.known f) a) (value (tree_of s0.known g) a) ≡ value (tree_of s1.known r) a)
-    (hf : IsHeld s0.known.core f) (hg : IsHeld s0.known.core g) (b : IsBefore s0.known s2.known) (is : x ≡ r) (there : IsThere x s1 s2)
+    (function : (a : ℕ → Bool) → operate op (value (tree_of s0.known f) a)
+    (value (tree_of s0.known g) a) ≡ value (tree_of s1.known r) a)
+    (hf : IsHeld s0.known.core f) (hg : IsHeld s0.known.core g) (b : IsBefore s0.known s2.known)
+    (is : x ≡ r) (there : IsThere x s1 s2)
     (known : IsKnown s2.known) where
   pub found_result : IsResult n op s2.known f g x
   found_result = record {
@@ -71,13 +76,20 @@ module _ (n : ℕ) (counts : List ℕ) (op : Op) (f g r x : ℕ) (s0 s1 s2 : Sta
     second = b.held g hg;
     within = there.0;
     above = λ v few above_f above_g. starts_root n v (tree_of s2.known x) few
-        (starts_both op (tree_of s2.known f) (tree_of s2.known g) (known.canonical f (held_is_named s2.known f (b.held f hf))) (known.canonical g (held_is_named s2.known g (b.held g hg)))
-        (tree_of s2.known x) (known.canonical x (held_is_named s2.known x there.0)) says v (starts_below n v (tree_of s2.known f) above_f) (starts_below n v (tree_of s2.known g) above_g));
+        (starts_both op (tree_of s2.known f) (tree_of s2.known g)
+        (known.canonical f (held_is_named s2.known f (b.held f hf)))
+        (known.canonical g (held_is_named s2.known g (b.held g hg)))
+        (tree_of s2.known x) (known.canonical x (held_is_named s2.known x there.0)) says v
+        (starts_below n v (tree_of s2.known f) above_f) (starts_below n v (tree_of s2.known g)
+        above_g));
     function = says;
   }
     where
       tree : tree_of s2.known x ≡ tree_of s1.known r
       tree = there.1 ∙ ap (tree_of s1.known) is
 
-      says : (a : ℕ → Bool) → value (tree_of s2.known x) a ≡ operate op (value (tree_of s2.known f) a) (value (tree_of s2.known g) a)
-      says a = ap (λ (t : Tree). value t a) tree ∙ (sym (function a) ∙ (λ i. operate op (value (sym (b.tree f hf) i) a) (value (sym (b.tree g hg) i) a)))
+      says : (a : ℕ → Bool) → value (tree_of s2.known x) a
+          ≡ operate op (value (tree_of s2.known f) a) (value (tree_of s2.known g) a)
+      says a = ap (λ (t : Tree). value t a) tree
+          ∙ (sym (function a) ∙ (λ i. operate op (value (sym (b.tree f hf) i) a)
+          (value (sym (b.tree g hg) i) a)))

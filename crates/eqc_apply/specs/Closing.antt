@@ -7,12 +7,15 @@ use Rattle.eqc_guard.specs.Closing.{IsTallied}
 use Rattle.eqc_apply.specs.declared.held.Held.{Held}
 use Rattle.eqc_apply.specs.Extending.{holding_in}
 
--- so many slots have a count above 0 in the last state of the forest, in which nobody else is active and the worker holds each node on which a reference stands, once, and no other
+-- so many slots have a count above 0 in the last state of the forest, in which nobody else is
+-- active and the worker holds each node on which a reference stands, once, and no other
 pub record IsTold (counted : ℕ) (n : Held) : Type 0 where
   pub last : Known
   pub sizes : last.core.sizes ≡ n.worker.known.core.sizes
   pub once : (x : ℕ) → times x last.core.held ≤ 1
-  pub holds : (e : Entry) → 2 ≤ e.number → IsHeld (holding_in n) e ↔ ((0 < times e.number last.core.held) × (tree_of last e.number ≡ e.tree))
+  pub holds : (e : Entry) → 2 ≤ e.number
+      → IsHeld (holding_in n) e ↔ ((0 < times e.number last.core.held)
+      × (tree_of last e.number ≡ e.tree))
   pub tallied : IsTallied counted last
 
 -- From here on: what the calls say to one another. No public promise cites it.

@@ -1,5 +1,7 @@
--- For proofs alone: a copy of nodes of the forest in a store of one thread. No public promise cites it.
-use Rattle.std.specs.Prelude.{◌≡◌, ℕ, ◌+◌, ◌-◌, ◌*◌, ◌^◌, ◌<◌, ◌≤◌, ◌⊎◌, Bool, List, [], ◌∷◌, length, Option, None, Some, slice_index_or, sum_by}
+-- For proofs alone: a copy of nodes of the forest in a store of one thread. No public promise cites
+-- it.
+use Rattle.std.specs.Prelude.{◌≡◌, ℕ, ◌+◌, ◌-◌, ◌*◌, ◌^◌, ◌<◌, ◌≤◌, ◌⊎◌, Bool, List, [], ◌∷◌}
+use Rattle.std.specs.Prelude.{length, Option, None, Some, slice_index_or, sum_by}
 use Rattle.std.specs.List.{All}
 use Rattle.eqc_tree.specs.Tree.{value}
 use Rattle.eqc_plain.specs.Store.{root, tree_at}
@@ -52,14 +54,16 @@ IsComing places vs x = IsPlaced places x ⊎ Comes x vs
 abbrev pub AreInOrder : List (Option ℕ) → List Visit → Type 0
 AreInOrder places [] = Unit {0}
 AreInOrder places (Reached x ∷ vs) = AreInOrder places vs
-AreInOrder places (Opened x v low high ∷ vs) = IsComing places vs low × IsComing places vs high × AreInOrder places vs
+AreInOrder places (Opened x v low high ∷ vs) = IsComing places vs low × IsComing places vs high
+    × AreInOrder places vs
 
 -- what a name without a number counts
 abbrev pub free : Option ℕ → ℕ
 free None = 1
 free (Some m) = 0
 
--- each number that is noted is its name's, and the store has room for a node for each name without one
+-- each number that is noted is its name's, and the store has room for a node for each name without
+-- one
 pub record IsFaithful (n : Held) (c : PlainCopy) : Type 0 where
   pub variables : c.store.variables ≡ n.variables
   pub size : length c.places.items ≡ n.worker.known.core.sizes.names
@@ -81,8 +85,10 @@ toil_of n (Opened x v low high) = 1
 abbrev pub toil : Held → List Visit → ℕ
 toil n vs = sum_by (toil_of n) vs
 
--- one step of a copy with these visits to come: what was to be copied still is, and fewer steps are left
-pub record IsAdvance (n : Held) (c : PlainCopy) (vs : List Visit) (m : Held) (d : PlainCopy) : Type 0 where
+-- one step of a copy with these visits to come: what was to be copied still is, and fewer steps are
+-- left
+pub record IsAdvance (n : Held) (c : PlainCopy) (vs : List Visit) (m : Held) (d : PlainCopy) : Type
+    0 where
   pub way : IsOnWay m d d.visits.items
   pub coming : (x : ℕ) → IsComing c.places.items vs x → IsComing d.places.items d.visits.items x
   pub less : toil m d.visits.items < toil n vs

@@ -1,4 +1,5 @@
--- What an applier holds: the references that stand on its names. And the changes by which none of them goes or comes.
+-- What an applier holds: the references that stand on its names. And the changes by which none of
+-- them goes or comes.
 use Rattle.std.specs.Prelude.{◌≡◌, ℕ, ◌+◌, ◌-◌, ◌≤◌, List, [], ◌∷◌, ◌++◌, get_or, replicate}
 use Rattle.eqc_tree.specs.Holding.{Entry, Holding}
 use Rattle.eqc_guard.specs.Known.{Known, tree_of}
@@ -31,7 +32,8 @@ pub record Stays (old new : Held) : Type 0 where
   pub seat : IsSeat old.worker.known.core new.worker.known.core
   pub variables : new.variables ≡ old.variables
   pub references : (x : ℕ) → refs_of new.counts.items x ≡ refs_of old.counts.items x
-  pub tree : (x : ℕ) → 2 ≤ get_or old.counts.items x 0 → tree_of new.worker.known x ≡ tree_of old.worker.known x
+  pub tree : (x : ℕ) → 2 ≤ get_or old.counts.items x 0 → tree_of new.worker.known x
+      ≡ tree_of old.worker.known x
   pub turns : Spends old.turns new.turns
 
 -- and what was held is held, with its tree

@@ -31,4 +31,5 @@ pub record IsOwn (op : Op) (f g : ℕ) (filled : Filled) (r : ℕ) (old new : St
 -- the operation's result came, and is held once more
 pub record HasCome (op : Op) (f g r : ℕ) (old new : Standing) : Type 0 where
   pub came : Exchanges [] (slots_of (r ∷ [])) old new
-  pub function : (a : ℕ → Bool) → operate op (value (tree_of old.known f) a) (value (tree_of old.known g) a) ≡ value (tree_of new.known r) a
+  pub function : (a : ℕ → Bool) → operate op (value (tree_of old.known f) a)
+      (value (tree_of old.known g) a) ≡ value (tree_of new.known r) a

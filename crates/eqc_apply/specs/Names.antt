@@ -6,7 +6,8 @@ use Rattle.eqc_guard.specs.Known.{IsHeld, tree_of}
 use Rattle.eqc_guard.specs.Standing.{Standing}
 use Rattle.eqc_apply.specs.Before.{IsSeat}
 
--- how many references stand on a name, whose count is one more where the worker holds it, and 0 elsewhere
+-- how many references stand on a name, whose count is one more where the worker holds it, and 0
+-- elsewhere
 abbrev pub refs_of : List ℕ → ℕ → ℕ
 refs_of counts x = get_or counts x 0 - 1
 

@@ -1,7 +1,8 @@
 -- That nothing is announced is a fact: there is one proof of it at most.
 use mathlib.Core.Path.{refl}
 use Rattle.eqc_core.specs.declared.phase.Phase.{Phase}
-use Rattle.eqc_core.specs.declared.phase.Phase.TheVariants.{Idle, Seen, Announced, Confirmed, Missed}
+use Rattle.eqc_core.specs.declared.phase.Phase.TheVariants.{Idle, Seen, Announced, Confirmed}
+use Rattle.eqc_core.specs.declared.phase.Phase.TheVariants.{Missed}
 use Rattle.eqc_core.specs.Moves.{IsQuiet}
 
 pub quiet_prop : (p : Phase) → IsProp (IsQuiet p)

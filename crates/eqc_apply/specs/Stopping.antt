@@ -1,7 +1,8 @@
 -- What a worker knows where an operation stopped.
 use Rattle.std.specs.Prelude.{◌<◌, ◌⊎◌}
 use Rattle.eqc_tree.specs.declared.stopping.Stop.{Stop}
-use Rattle.eqc_tree.specs.declared.stopping.Stop.TheVariants.{NodeLimit, Memory, References, Threads}
+use Rattle.eqc_tree.specs.declared.stopping.Stop.TheVariants.{NodeLimit, Memory, References}
+use Rattle.eqc_tree.specs.declared.stopping.Stop.TheVariants.{Threads}
 use Rattle.eqc_core.specs.View.{View}
 use Rattle.eqc_core.specs.Words.{times}
 use Rattle.eqc_guard.specs.Sharing.{number_of}
@@ -13,7 +14,8 @@ use Rattle.eqc_plain.specs.Spending.{IsSpent}
 abbrev pub HasTaken : Stop → View → Type 0
 HasTaken stop v = 0 < times (number_of stop) v.stops
 
--- every slot was seen taken by this worker, or another one that did a part of the operation stopped for nodes
+-- every slot was seen taken by this worker, or another one that did a part of the operation stopped
+-- for nodes
 abbrev pub IsFull : View → Type 0
 IsFull v = HasSeenAll v ⊎ HasTaken NodeLimit v
 

@@ -23,12 +23,15 @@ sizes_in a = a.names.worker.known.core.sizes
 abbrev pub turns_in : Applier → Option ℕ
 turns_in a = a.names.turns
 
--- the numbers that a team may be made with: the room for nodes, the cells of the cache, the members, and the levels in
+-- the numbers that a team may be made with: the room for nodes, the cells of the cache, the
+-- members, and the levels in
 -- which an operation is shared
 abbrev pub AreTeamSizes : ℕ → ℕ → ℕ → ℕ → Type 0
-AreTeamSizes nodes cells workers forks = ((1 ≤ nodes) × (nodes ≤ 1048574)) × ((1 ≤ cells) × (cells ≤ 1048576)) × ((1 ≤ workers) × (workers ≤ 64)) × (forks ≤ 16)
+AreTeamSizes nodes cells workers forks = ((1 ≤ nodes) × (nodes ≤ 1048574))
+    × ((1 ≤ cells) × (cells ≤ 1048576)) × ((1 ≤ workers) × (workers ≤ 64)) × (forks ≤ 16)
 
--- so many members of one forest, by their numbers, which hold nothing, and for which there is the room that was asked for
+-- so many members of one forest, by their numbers, which hold nothing, and for which there is the
+-- room that was asked for
 pub record IsTeam (variables nodes cells workers : ℕ) (members : List Applier) : Type 0 where
   pub numbers : map number_of members ≡ slots_from 0 workers
   pub new : All (λ a. IsNew variables (holding_in a.names)) members
@@ -46,7 +49,8 @@ pub record IsLead (variables : ℕ) (sizes : Sizes) (given : ℕ) (a : Applier) 
   pub given_is : a.names.worker.known.core.given ≡ given
 
 -- some of the others
-pub record AreOthers (variables : ℕ) (sizes : Sizes) (given : ℕ) (forest : TableId) (others : List Applier) : Type 0 where
+pub record AreOthers (variables : ℕ) (sizes : Sizes) (given : ℕ) (forest : TableId)
+    (others : List Applier) : Type 0 where
   pub numbers : map number_of others ≡ slots_from 1 given
   pub new : All (λ a. IsNew variables (holding_in a.names)) others
   pub one : All (λ a. forest_of a ≡ forest) others

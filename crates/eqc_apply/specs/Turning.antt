@@ -8,7 +8,8 @@ use Rattle.eqc_plain.specs.declared.task.Task.{Task}
 use Rattle.eqc_plain.specs.declared.task.Turn.{Turn}
 use Rattle.eqc_plain.specs.declared.task.Turn.TheVariants.{Done, Next}
 
--- under us, p and q come next on the way from F and G, in place of f and g under ts; numbers meant m before, and mean n
+-- under us, p and q come next on the way from F and G, in place of f and g under ts; numbers meant
+-- m before, and mean n
 pub record GoesOn (m n : Meaning) (op : Op) (ts us : List Task) (F G f g p q : ℕ) : Type 0 where
   pub first : n.there p
   pub second : n.there q

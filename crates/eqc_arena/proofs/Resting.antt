@@ -1,4 +1,5 @@
--- A worker at rest, none of whose announcement words announces a name: a call may begin there, and what calls change leaves it at rest.
+-- A worker at rest, none of whose announcement words announces a name: a call may begin there, and
+-- what calls change leaves it at rest.
 use Rattle.std.proofs.Common.{◌≡◌, ℕ, zero, suc, List, [], ◌∷◌, set, get_or, refl, sym, subst, ◌∙◌}
 use mathlib.Core.Option.{some, some-injective, some-ne-none}
 use lib.ListN.{get_elem?}
@@ -29,12 +30,19 @@ quiet_set (o ∷ ps) p q all k r e = go k e
     go (suc k) e = all (suc k) r e
 
 pub rest_begins : {v : View} → IsAtRest v → MayBegin v
-rest_begins {v} rest = record { ready = rest.ready; quiet = first_quiet v.phases rest.quiet; no_draft = rest.no_draft; no_hand = rest.no_hand }
+rest_begins {v} rest = record {
+  ready = rest.ready;
+  quiet = first_quiet v.phases rest.quiet;
+  no_draft = rest.no_draft;
+  no_hand = rest.no_hand;
+}
 
-pub rest_now : {gone came : List ℕ} {old new : Standing} → IsAtRest old.known.core → Exchanges gone came old new → IsAtRest new.known.core
+pub rest_now : {gone came : List ℕ} {old new : Standing} → IsAtRest old.known.core
+    → Exchanges gone came old new → IsAtRest new.known.core
 rest_now {gone} {came} {old} {new} rest t = record {
   ready = ready_now t rest.ready;
-  quiet = subst (λ (v : View). AreQuiet v.phases) (sym t.core) (quiet_set old.known.core.phases t.phase (t.quiet (first_quiet old.known.core.phases rest.quiet)) rest.quiet);
+  quiet = subst (λ (v : View). AreQuiet v.phases) (sym t.core) (quiet_set old.known.core.phases
+      t.phase (t.quiet (first_quiet old.known.core.phases rest.quiet)) rest.quiet);
   no_draft = draft_now t ∙ rest.no_draft;
   no_hand = hand_now t ∙ rest.no_hand;
 }

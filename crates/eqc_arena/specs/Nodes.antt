@@ -1,5 +1,6 @@
 -- The trees of nodes that are made.
-use Rattle.std.specs.Prelude.{◌≡◌, ◌≢◌, ℕ, ◌-◌, ◌^◌, ◌<◌, ◌≤◌, ◌⊎◌, [], ◌∷◌, length, Some, None, Result, IfOk, IfErr, OnErr}
+use Rattle.std.specs.Prelude.{◌≡◌, ◌≢◌, ℕ, ◌-◌, ◌^◌, ◌<◌, ◌≤◌, ◌⊎◌, [], ◌∷◌, length, Some, None}
+use Rattle.std.specs.Prelude.{Result, IfOk, IfErr, OnErr}
 use Rattle.eqc_tree.specs.Tree.{Tree, Node, StartsAbove}
 use Rattle.eqc_core.specs.View.{View}
 use Rattle.eqc_core.specs.Counting.{Knows as IsKept}
@@ -19,7 +20,8 @@ use Rattle.eqc_guard.specs.Known.{Known, IsHeld, IsNamed, names_of, tree_of}
 abbrev pub IsNodeOf : ℕ → Tree → Tree → Tree → Type 0
 IsNodeOf variable low high t = (low ≡ high → t ≡ low) × (low ≢ high → t ≡ Node variable low high)
 
--- a constant, or a named node that is known to stay: its tree is known, and one more count may be taken of it
+-- a constant, or a named node that is known to stay: its tree is known, and one more count may be
+-- taken of it
 abbrev pub MayCount : View → ℕ → Type 0
 MayCount v x = (x < 2) ⊎ ((0 < times x (names_of v)) × IsKept v x)
 
@@ -27,7 +29,8 @@ MayCount v x = (x < 2) ⊎ ((0 < times x (names_of v)) × IsKept v x)
 abbrev pub KeepsTrees : Known → Known → Type 0
 KeepsTrees k after = (x : ℕ) → IsNamed k.core x → tree_of after x ≡ tree_of k x
 
--- a worker may ask for a node: a call may begin, it holds the children, whose variables are greater, and there are cells
+-- a worker may ask for a node: a call may begin, it holds the children, whose variables are
+-- greater, and there are cells
 pub record MayAsk (k : Known) (variable low high : ℕ) : Type 0 where
   pub rest : MayBegin k.core
   pub cells : 0 < k.core.sizes.cells
@@ -38,16 +41,21 @@ pub record MayAsk (k : Known) (variable low high : ℕ) : Type 0 where
   pub above_low : StartsAbove variable (tree_of k low)
   pub above_high : StartsAbove variable (tree_of k high)
 
--- what comes of asking for a node: one reference more, whose tree is that of the node over the children's trees; or a stop, and the same names are held. The limit of references comes from so many names held on, the node limit where every slot was seen taken
-pub record IsGiven (variable low high : ℕ) (given : Result Ref Stop) (old new : Standing) : Type 0 where
-  pub node : IfOk given (λ r. Exchanges [] (slots_of (r.number ∷ [])) old new)
-  pub tree : IfOk given (λ r. IsNodeOf variable (tree_of old.known low) (tree_of old.known high) (tree_of new.known r.number))
-  pub still : OnErr given (Exchanges [] [] old new)
-  pub full : IfErr given (λ s. s ≡ References → 2 ^ 32 - 2 ≤ length old.known.core.held)
-  pub all : IfErr given (λ s. s ≡ NodeLimit → HasSeenAll new.known.core)
-  pub only : IfErr given (λ s. s ≢ Threads)
+-- what comes of asking for a node: one reference more, whose tree is that of the node over the
+-- children's trees; or a stop, and the same names are held. The limit of references comes from so
+-- many names held on, the node limit where every slot was seen taken
+pub record IsGiven (variable low high : ℕ) (given : Result Ref Stop) (old new : Standing) : Type 0
+  where
+    pub node : IfOk given (λ r. Exchanges [] (slots_of (r.number ∷ [])) old new)
+    pub tree : IfOk given (λ r. IsNodeOf variable (tree_of old.known low) (tree_of old.known high)
+        (tree_of new.known r.number))
+    pub still : OnErr given (Exchanges [] [] old new)
+    pub full : IfErr given (λ s. s ≡ References → 2 ^ 32 - 2 ≤ length old.known.core.held)
+    pub all : IfErr given (λ s. s ≡ NodeLimit → HasSeenAll new.known.core)
+    pub only : IfErr given (λ s. s ≢ Threads)
 
--- a worker may put a node into its draft: the stripe of the word is in hand, whose map has these entries and not the word
+-- a worker may put a node into its draft: the stripe of the word is in hand, whose map has these
+-- entries and not the word
 pub record MayPut (k : Known) (t : Entries) (slot variable low high : ℕ) : Type 0 where
   pub home : MayHome k.core (stripe_of (node_word variable low high)) t
   pub draft : k.core.draft ≡ Some slot
@@ -66,7 +74,8 @@ pub record IsMade (variable low high r : ℕ) (old new : Standing) : Type 0 wher
   pub first : 2 ≤ r
   pub tree : tree_of new.known r ≡ Node variable (tree_of old.known low) (tree_of old.known high)
 
--- a worker may look for a node in the stripe in hand, whose map has these entries, and make it there
+-- a worker may look for a node in the stripe in hand, whose map has these entries, and make it
+-- there
 pub record MayEnter (k : Known) (t : Entries) (variable low high : ℕ) : Type 0 where
   pub home : MayHome k.core (stripe_of (node_word variable low high)) t
   pub no_draft : k.core.draft ≡ None

@@ -13,7 +13,8 @@ HoldsParcel v parcel = (x : ℕ) → times x (parcel_names parcel) ≤ times x v
 
 -- the first n boxes are empty in the copy of a worker that had one
 abbrev pub AreUnboxed : ℕ → Known → Known → Type 0
-AreUnboxed n k after = (ws : List ℕ) → k.copy ≡ Some ws → (left : List ℕ) × (after.copy ≡ Some left) × ((b : ℕ) → b < n → box_in k left b ≡ 0)
+AreUnboxed n k after = (ws : List ℕ) → k.copy ≡ Some ws → (left : List ℕ) × (after.copy ≡ Some left)
+    × ((b : ℕ) → b < n → box_in k left b ≡ 0)
 
 -- the search for a free slot stands where it stood, and each stop that was noted is noted still
 pub record KeepsMarks (old new : View) : Type 0 where

@@ -1,5 +1,6 @@
 -- What the code of a statement says of it.
-use Rattle.std.proofs.Common.{◌≡◌, ◌≢◌, ℕ, Bool, true, false, not, cond, List, length, Option, Some, None, refl, subst, arith}
+use Rattle.std.proofs.Common.{◌≡◌, ◌≢◌, ℕ, Bool, true, false, not, cond, List, length, Option, Some}
+use Rattle.std.proofs.Common.{None, refl, subst, arith}
 use Rattle.std.specs.Prelude.{is_some, map}
 use Rattle.std.specs.List.{list_all}
 use Rattle.std.proofs.lemmas.Bool.{not-true, not-false, and_parts}
@@ -26,7 +27,9 @@ use Rattle.eqc_blif.specs.Reading.{
   statement_code,
 }
 use Rattle.eqc_blif.specs.declared.reader.kind.Kind.{Kind}
-use Rattle.eqc_blif.specs.declared.reader.kind.Kind.TheVariants.{Model, Inputs, Outputs, Names, Subckt, End, Latch, Skipped, Unknown, Row}
+use Rattle.eqc_blif.specs.declared.reader.kind.Kind.TheVariants.{Model, Inputs, Outputs, Names}
+use Rattle.eqc_blif.specs.declared.reader.kind.Kind.TheVariants.{Subckt, End, Latch, Skipped}
+use Rattle.eqc_blif.specs.declared.reader.kind.Kind.TheVariants.{Unknown, Row}
 use Rattle.eqc_blif.proofs.CodeLemmas.{condition_holds, alone}
 
 -- only an unknown command is one
@@ -56,7 +59,8 @@ at_outside st Unknown is = cc
 at_outside st Row is = refl
 
 -- what is misshapen is a row
-pub at_misshapen : (st : After) (kind : Kind) (row : List ℕ) → is_misshapen st kind row ≡ true → kind ≡ Row
+pub at_misshapen : (st : After) (kind : Kind) (row : List ℕ) → is_misshapen st kind row ≡ true
+    → kind ≡ Row
 at_misshapen st Model row is = cc
 at_misshapen st Inputs row is = cc
 at_misshapen st Outputs row is = cc
@@ -95,7 +99,8 @@ at_pair Unknown ws is = cc
 at_pair Row ws is = cc
 
 -- a model's name stands in `.model` alone
-pub at_model : (st : After) (kind : Kind) (ws : List (List ℕ)) → is_model_again st kind ws ≡ true → kind ≡ Model
+pub at_model : (st : After) (kind : Kind) (ws : List (List ℕ)) → is_model_again st kind ws ≡ true
+    → kind ≡ Model
 at_model st Model ws is = refl
 at_model st Inputs ws is = cc
 at_model st Outputs ws is = cc
@@ -108,19 +113,26 @@ at_model st Unknown ws is = cc
 at_model st Row ws is = cc
 
 -- a row with a code from 7 on follows a cover
-covered : (outside within : Bool) (rest : Option ℕ) (k : ℕ) → cond outside (Some 5) (cond (not within) (Some 6) rest) ≡ Some k → (5 ≡ k → ⊥) → (6 ≡ k → ⊥) → within ≡ true
+covered : (outside within : Bool) (rest : Option ℕ) (k : ℕ)
+    → cond outside (Some 5) (cond (not within) (Some 6) rest) ≡ Some k → (5 ≡ k → ⊥) → (6 ≡ k → ⊥)
+    → within ≡ true
 covered true within rest k is five six = absurd (five cc)
 covered false true rest k is five six = refl
 covered false false rest k is five six = absurd (six cc)
 
 -- 3
-pub told_unknown : (st : After) (kind : Kind) (ws : List (List ℕ)) (row : List ℕ) → statement_code st kind ws row ≡ Some 3 → kind ≡ Unknown
-told_unknown st kind ws row is = at_unknown kind (alone (is_unknown kind) (condition_holds st kind ws row 3 is))
+pub told_unknown : (st : After) (kind : Kind) (ws : List (List ℕ)) (row : List ℕ)
+    → statement_code st kind ws row ≡ Some 3 → kind ≡ Unknown
+told_unknown st kind ws row is =
+    at_unknown kind (alone (is_unknown kind) (condition_holds st kind ws row 3 is))
 
 -- 5
-pub told_behind : (st : After) (kind : Kind) (ws : List (List ℕ)) (row : List ℕ) → statement_code st kind ws row ≡ Some 5 → (stands_in_model kind ≡ true) × (st.open_model ≡ None)
+pub told_behind : (st : After) (kind : Kind) (ws : List (List ℕ)) (row : List ℕ)
+    → statement_code st kind ws row ≡ Some 5 → (stands_in_model kind ≡ true)
+    × (st.open_model ≡ None)
 told_behind st kind ws row is =
-    let parts = and_parts (stands_in_model kind) (not (is_some st.open_model)) (alone (is_outside st kind) (condition_holds st kind ws row 5 is)) in
+    let parts = and_parts (stands_in_model kind) (not (is_some st.open_model))
+    (alone (is_outside st kind) (condition_holds st kind ws row 5 is)) in
     (parts.0, closed st.open_model parts.1)
   where
     closed : {A : Type 0} (o : Option A) → not (is_some o) ≡ true → o ≡ None
@@ -128,47 +140,62 @@ told_behind st kind ws row is =
     closed (Some x) none = cc
 
 -- 6
-pub told_outside : (st : After) (kind : Kind) (ws : List (List ℕ)) (row : List ℕ) → statement_code st kind ws row ≡ Some 6 → (kind ≡ Row) × (is_in_cover st.open_model ≡ false)
+pub told_outside : (st : After) (kind : Kind) (ws : List (List ℕ)) (row : List ℕ)
+    → statement_code st kind ws row ≡ Some 6 → (kind ≡ Row) × (is_in_cover st.open_model ≡ false)
 told_outside st kind ws row is =
     let holds = alone (is_row_outside st kind) (condition_holds st kind ws row 6 is) in
     let at = at_outside st kind holds in
     (at, not-true (is_in_cover st.open_model) (subst (λ k. is_row_outside st k ≡ true) at holds))
 
 -- 7
-pub told_misshapen : (st : After) (kind : Kind) (ws : List (List ℕ)) (row : List ℕ) → statement_code st kind ws row ≡ Some 7
-    → (is_in_cover st.open_model ≡ true) × (kind ≡ Row) × (has_row_shape (length (last_cover (current st).covers).columns) row ≡ false)
+pub told_misshapen : (st : After) (kind : Kind) (ws : List (List ℕ)) (row : List ℕ)
+    → statement_code st kind ws row ≡ Some 7
+    → (is_in_cover st.open_model ≡ true) × (kind ≡ Row)
+    × (has_row_shape (length (last_cover (current st).covers).columns) row ≡ false)
 told_misshapen st kind ws row is =
     let holds = alone (is_misshapen st kind row) (condition_holds st kind ws row 7 is) in
     let at = at_misshapen st kind row holds in (
-      covered _ (is_in_cover st.open_model) _ 7 (subst (λ k. statement_code st k ws row ≡ Some 7) at is) (λ e. omega (arith, e)) (λ e. omega (arith, e)),
+      covered _ (is_in_cover st.open_model) _ 7 (subst (λ k. statement_code st k ws row ≡ Some 7) at
+          is) (λ e. omega (arith, e)) (λ e. omega (arith, e)),
       at,
-      not-true (has_row_shape (length (last_cover (current st).covers).columns) row) (subst (λ k. is_misshapen st k row ≡ true) at holds),
+      not-true (has_row_shape (length (last_cover (current st).covers).columns) row)
+          (subst (λ k. is_misshapen st k row ≡ true) at holds),
     )
 
 -- 8
-pub told_mixed : (st : After) (kind : Kind) (ws : List (List ℕ)) (row : List ℕ) → statement_code st kind ws row ≡ Some 8
-    → (is_in_cover st.open_model ≡ true) × (kind ≡ Row) × (differs_from_first (last_cover (current st).covers).rows row ≡ true)
+pub told_mixed : (st : After) (kind : Kind) (ws : List (List ℕ)) (row : List ℕ)
+    → statement_code st kind ws row ≡ Some 8
+    → (is_in_cover st.open_model ≡ true) × (kind ≡ Row)
+    × (differs_from_first (last_cover (current st).covers).rows row ≡ true)
 told_mixed st kind ws row is =
     let holds = alone (is_mixed st kind row) (condition_holds st kind ws row 8 is) in
     let at = at_mixed st kind row holds in (
-      covered _ (is_in_cover st.open_model) _ 8 (subst (λ k. statement_code st k ws row ≡ Some 8) at is) (λ e. omega (arith, e)) (λ e. omega (arith, e)),
+      covered _ (is_in_cover st.open_model) _ 8 (subst (λ k. statement_code st k ws row ≡ Some 8) at
+          is) (λ e. omega (arith, e)) (λ e. omega (arith, e)),
       at,
       subst (λ k. is_mixed st k row ≡ true) at holds,
     )
 
 -- 9
-pub told_pair : (st : After) (kind : Kind) (ws : List (List ℕ)) (row : List ℕ) → statement_code st kind ws row ≡ Some 9 → (kind ≡ Subckt) × (list_all is_pair (behind_first ws) ≡ false)
+pub told_pair : (st : After) (kind : Kind) (ws : List (List ℕ)) (row : List ℕ)
+    → statement_code st kind ws row ≡ Some 9 → (kind ≡ Subckt)
+    × (list_all is_pair (behind_first ws) ≡ false)
 told_pair st kind ws row is =
     let holds = alone (has_bad_pair kind ws) (condition_holds st kind ws row 9 is) in
-    let at = at_pair kind ws holds in
-    (at, not-true (list_all is_pair (behind_first ws)) (subst (λ k. has_bad_pair k ws ≡ true) at holds))
+    let at = at_pair kind ws holds in (
+      at,
+      not-true (list_all is_pair (behind_first ws)) (subst (λ k. has_bad_pair k ws ≡ true) at
+          holds),
+    )
 
 -- 10
-pub told_word : (st : After) (kind : Kind) (ws : List (List ℕ)) (row : List ℕ) → statement_code st kind ws row ≡ Some 10 → lacks_words kind ws ≡ true
+pub told_word : (st : After) (kind : Kind) (ws : List (List ℕ)) (row : List ℕ)
+    → statement_code st kind ws row ≡ Some 10 → lacks_words kind ws ≡ true
 told_word st kind ws row is = alone (lacks_words kind ws) (condition_holds st kind ws row 10 is)
 
 -- 11
-pub told_model : (st : After) (kind : Kind) (ws : List (List ℕ)) (row : List ℕ) → statement_code st kind ws row ≡ Some 11
+pub told_model : (st : After) (kind : Kind) (ws : List (List ℕ)) (row : List ℕ)
+    → statement_code st kind ws row ≡ Some 11
     → (kind ≡ Model) × (is_named (map (λ m. m.name) (models st)) (first_of ws) ≡ true)
 told_model st kind ws row is =
     let holds = alone (is_model_again st kind ws) (condition_holds st kind ws row 11 is) in
@@ -176,15 +203,18 @@ told_model st kind ws row is =
     (at, subst (λ k. is_model_again st k ws ≡ true) at holds)
 
 -- a condition of another code does not hold
-passed : (n : ℕ) (holds : Bool) (rest : Option ℕ) (code : ℕ) → cond holds (Some n) rest ≡ Some code → code ≢ n → (holds ≡ false) × (rest ≡ Some code)
+passed : (n : ℕ) (holds : Bool) (rest : Option ℕ) (code : ℕ) → cond holds (Some n) rest ≡ Some code
+    → code ≢ n → (holds ≡ false) × (rest ≡ Some code)
 passed n true rest code is other = absurd (other cc)
 passed n false rest code is other = (refl, is)
 
-last : (n : ℕ) (holds : Bool) (code : ℕ) → cond holds (Some n) None ≡ Some code → (holds ≡ true) × (code ≡ n)
+last : (n : ℕ) (holds : Bool) (code : ℕ) → cond holds (Some n) None ≡ Some code → (holds ≡ true)
+    × (code ≡ n)
 last n true code is = (refl, cc)
 last n false code is = cc
 
-named_again : (st : After) (kind : Kind) (ws : List (List ℕ)) → is_outside st kind ≡ false → is_name_again st kind ws ≡ true → is_some st.open_model ≡ true
+named_again : (st : After) (kind : Kind) (ws : List (List ℕ)) → is_outside st kind ≡ false
+    → is_name_again st kind ws ≡ true → is_some st.open_model ≡ true
 named_again st Inputs ws inside again = not-false (is_some st.open_model) inside
 named_again st Outputs ws inside again = not-false (is_some st.open_model) inside
 named_again st Model ws inside again = cc

@@ -1,12 +1,16 @@
--- Laws of the definitions, in the words of a reader of the format: what follows a text, what changes nothing, how lines
+-- Laws of the definitions, in the words of a reader of the format: what follows a text, what
+-- changes nothing, how lines
 -- are numbered, and what a library never has.
-use Rattle.std.specs.Prelude.{◌≡◌, ℕ, ◌+◌, ◌≤◌, Bool, true, false, not, ◌&&◌, ◌||◌, List, [], ◌∷◌, ◌++◌, length, map, ◌==◌, Some, None, Result, Ok, Err}
+use Rattle.std.specs.Prelude.{◌≡◌, ℕ, ◌+◌, ◌≤◌, Bool, true, false, not, ◌&&◌, ◌||◌, List, [], ◌∷◌}
+use Rattle.std.specs.Prelude.{◌++◌, length, map, ◌==◌, Some, None, Result, Ok, Err}
 use Rattle.std.specs.List.{list_all, list_any}
 use Rattle.eqc_blif.specs.Netlist.{CoverOf, ModelOf}
-use Rattle.eqc_blif.specs.Lines.{is_blank, is_trailing, physical, clean, continues, numbered, logical, logical_lines}
+use Rattle.eqc_blif.specs.Lines.{is_blank, is_trailing, physical, clean, continues, numbered}
+use Rattle.eqc_blif.specs.Lines.{logical, logical_lines}
 use Rattle.eqc_netlist.specs.Names.{has_twice}
 use Rattle.eqc_blif.specs.Kind.{kind_of_line}
-use Rattle.eqc_blif.specs.Reading.{Outcome, start, is_bad_byte, row_output, line_code, after, first_fault, outcome_of_lines, is_too_long, outcome}
+use Rattle.eqc_blif.specs.Reading.{Outcome, start, is_bad_byte, row_output, line_code, after}
+use Rattle.eqc_blif.specs.Reading.{first_fault, outcome_of_lines, is_too_long, outcome}
 use Rattle.eqc_blif.specs.declared.reader.kind.Kind.TheVariants.{Skipped}
 
 -- whether the last of some lines ends in a backslash
@@ -21,13 +25,16 @@ is_continued text = ends_open (numbered 1 text)
 
 -- a text behind an LF adds its lines, numbered on
 abbrev pub TextsFollow : Type 0
-TextsFollow = (text more : List ℕ) → is_continued text ≡ false → logical_lines (text ++ 10 ∷ more) ≡ logical_lines text ++ logical (numbered (1 + length (physical text)) more)
+TextsFollow = (text more : List ℕ) → is_continued text ≡ false → logical_lines (text ++ 10 ∷ more)
+    ≡ logical_lines text ++ logical (numbered (1 + length (physical text)) more)
 
 -- the first faulty line of a text stays the first, whatever text follows it
 abbrev pub FirstFaultStays : Type 0
 FirstFaultStays =
-    (limit : ℕ) (text more : List ℕ) (fault : ℕ × ℕ) → is_continued text ≡ false → is_too_long limit (text ++ 10 ∷ more) ≡ false
-    → first_fault start (logical_lines text) ≡ Some fault → outcome limit (text ++ 10 ∷ more) ≡ Err fault
+    (limit : ℕ) (text more : List ℕ) (fault : ℕ × ℕ) → is_continued text ≡ false
+    → is_too_long limit (text ++ 10 ∷ more) ≡ false
+    → first_fault start (logical_lines text) ≡ Some fault → outcome limit (text ++ 10 ∷ more)
+    ≡ Err fault
 
 -- a line with a code, and no line with a code before it
 pub record IsFirstFault (lines : List (ℕ × List ℕ)) (fault : ℕ × ℕ) : Type 0 where
@@ -40,11 +47,13 @@ pub record IsFirstFault (lines : List (ℕ × List ℕ)) (fault : ℕ × ℕ) : 
 
 -- what is found is a first fault
 abbrev pub FoundIsFirst : Type 0
-FoundIsFirst = (lines : List (ℕ × List ℕ)) (fault : ℕ × ℕ) → first_fault start lines ≡ Some fault → IsFirstFault lines fault
+FoundIsFirst = (lines : List (ℕ × List ℕ)) (fault : ℕ × ℕ) → first_fault start lines ≡ Some fault
+    → IsFirstFault lines fault
 
 -- a first fault is what is found, so there is at most one
 abbrev pub FirstIsFound : Type 0
-FirstIsFound = (lines : List (ℕ × List ℕ)) (fault : ℕ × ℕ) → IsFirstFault lines fault → first_fault start lines ≡ Some fault
+FirstIsFound = (lines : List (ℕ × List ℕ)) (fault : ℕ × ℕ) → IsFirstFault lines fault
+    → first_fault start lines ≡ Some fault
 
 -- a comment changes no line
 abbrev pub CommentsChangeNothing : Type 0
@@ -52,7 +61,8 @@ CommentsChangeNothing = (line comment : List ℕ) → clean (line ++ 35 ∷ comm
 
 -- trailing spaces, tabs and CRs change no line
 abbrev pub TrailingBlanksChangeNothing : Type 0
-TrailingBlanksChangeNothing = (line blanks : List ℕ) → list_all is_trailing blanks ≡ true → clean (line ++ blanks) ≡ clean line
+TrailingBlanksChangeNothing = (line blanks : List ℕ) → list_all is_trailing blanks ≡ true
+    → clean (line ++ blanks) ≡ clean line
 
 -- the bytes of lines, without their numbers
 abbrev pub contents : List (ℕ × List ℕ) → List (List ℕ)
@@ -61,9 +71,11 @@ contents lines = map (λ line. line.1) lines
 -- an inserted line of blanks and comment only renumbers
 abbrev pub BlankLinesOnlyRenumber : Type 0
 BlankLinesOnlyRenumber =
-    (text line more : List ℕ) → is_continued text ≡ false → list_any (λ byte. byte == 10) line ≡ false
+    (text line more : List ℕ) → is_continued text ≡ false → list_any (λ byte. byte == 10) line
+    ≡ false
     → list_all is_blank (clean line) ≡ true
-    → contents (logical_lines (text ++ 10 ∷ (line ++ 10 ∷ more))) ≡ contents (logical_lines (text ++ 10 ∷ more))
+    → contents (logical_lines (text ++ 10 ∷ (line ++ 10 ∷ more)))
+    ≡ contents (logical_lines (text ++ 10 ∷ more))
 
 -- the library or the code, without the line
 abbrev pub unnumbered : Outcome → Result (List ModelOf) ℕ
@@ -73,13 +85,16 @@ unnumbered (Err fault) = Err fault.1
 -- texts whose lines have the same bytes give the same library or code
 abbrev pub NumbersPlayNoPart : Type 0
 NumbersPlayNoPart =
-    (limit : ℕ) (text other : List ℕ) → is_too_long limit text ≡ false → is_too_long limit other ≡ false
-    → contents (logical_lines text) ≡ contents (logical_lines other) → unnumbered (outcome limit text) ≡ unnumbered (outcome limit other)
+    (limit : ℕ) (text other : List ℕ) → is_too_long limit text ≡ false → is_too_long limit other
+    ≡ false
+    → contents (logical_lines text) ≡ contents (logical_lines other)
+    → unnumbered (outcome limit text) ≡ unnumbered (outcome limit other)
 
 -- a skipped line without a bad byte changes nothing
 abbrev pub SkippedLinesChangeNothing : Type 0
 SkippedLinesChangeNothing =
-    (before behind : List (ℕ × List ℕ)) (n : ℕ) (line : List ℕ) → kind_of_line line ≡ Skipped → list_any is_bad_byte line ≡ false
+    (before behind : List (ℕ × List ℕ)) (n : ℕ) (line : List ℕ) → kind_of_line line ≡ Skipped
+    → list_any is_bad_byte line ≡ false
     → outcome_of_lines (before ++ (n, line) ∷ behind) ≡ outcome_of_lines (before ++ behind)
 
 -- the numbers of lines rise from least on
@@ -102,7 +117,9 @@ LinesMakeTheText = (text : List ℕ) → with_line_ends (physical text) ≡ text
 
 -- lines without LF that are put together are cut into the same lines
 abbrev pub LinesAreCutAgain : Type 0
-LinesAreCutAgain = (first : List ℕ) (lines : List (List ℕ)) → list_any (list_any (λ byte. byte == 10)) (first ∷ lines) ≡ false → physical (with_line_ends (first ∷ lines)) ≡ first ∷ lines
+LinesAreCutAgain = (first : List ℕ) (lines : List (List ℕ))
+    → list_any (list_any (λ byte. byte == 10)) (first ∷ lines) ≡ false
+    → physical (with_line_ends (first ∷ lines)) ≡ first ∷ lines
 
 -- whether no model has a name twice in its inputs or twice in its outputs
 abbrev pub lists_are_distinct : List ModelOf → Bool
@@ -120,11 +137,13 @@ has_places cover = list_all (λ row. length row == length cover.columns + 1) cov
 
 -- the rows of a cover all end in `0`, or all in `1`
 abbrev pub ends_alike : CoverOf → Bool
-ends_alike cover = list_all (λ row. row_output row == 48) cover.rows || list_all (λ row. row_output row == 49) cover.rows
+ends_alike cover = list_all (λ row. row_output row == 48) cover.rows
+    || list_all (λ row. row_output row == 49) cover.rows
 
 abbrev pub rows_fit : ModelOf → Bool
 rows_fit m = list_all (λ cover. has_places cover && ends_alike cover) m.covers
 
 -- in a library the rows of each cover fit its columns, and end alike
 abbrev pub RowsFitTheirCovers : Type 0
-RowsFitTheirCovers = (limit : ℕ) (text : List ℕ) (library : List ModelOf) → outcome limit text ≡ Ok library → list_all rows_fit library ≡ true
+RowsFitTheirCovers = (limit : ℕ) (text : List ℕ) (library : List ModelOf) → outcome limit text
+    ≡ Ok library → list_all rows_fit library ≡ true

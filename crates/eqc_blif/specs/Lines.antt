@@ -1,6 +1,9 @@
--- The logical lines of a text (BLIF 1992, section 1; the blanks that are cut are this project's choice): the whole
--- text is cut at each LF, numbered, cleaned, joined at its backslashes, and freed of blank lines, step by step.
-use Rattle.std.specs.Prelude.{ℕ, ◌-◌, Bool, ◌||◌, not, List, [], ◌∷◌, ◌++◌, length, take, map, filter, slice_index, if◌then◌else◌, ◌==◌}
+-- The logical lines of a text (BLIF 1992, section 1; the blanks that are cut are this project's
+-- choice): the whole
+-- text is cut at each LF, numbered, cleaned, joined at its backslashes, and freed of blank lines,
+-- step by step.
+use Rattle.std.specs.Prelude.{ℕ, ◌-◌, Bool, ◌||◌, not, List, [], ◌∷◌, ◌++◌, length, take, map}
+use Rattle.std.specs.Prelude.{filter, slice_index, if◌then◌else◌, ◌==◌}
 use Rattle.std.specs.List.{list_all, before_first, enumerate_from, slice_split, suffix_len}
 
 -- a space or a tab
@@ -31,7 +34,8 @@ continues line = slice_index line (length line - 1) == 92
 abbrev pub spaced : List ℕ → List ℕ
 spaced line = take (length line - 1) line ++ 32 ∷ []
 
--- a line, numbered n, with the first of the lines behind it joined to it; behind the last line there is none
+-- a line, numbered n, with the first of the lines behind it joined to it; behind the last line
+-- there is none
 abbrev pub onto_next : ℕ → List ℕ → List (ℕ × List ℕ) → List (ℕ × List ℕ)
 onto_next n line [] = (n, line) ∷ []
 onto_next n line (next ∷ more) = (n, line ++ next.1) ∷ more
@@ -39,7 +43,8 @@ onto_next n line (next ∷ more) = (n, line ++ next.1) ∷ more
 -- each line whose last byte is a backslash is joined with the next
 abbrev pub joined : List (ℕ × List ℕ) → List (ℕ × List ℕ)
 joined [] = []
-joined (line ∷ lines) = if continues line.1 then onto_next line.0 (spaced line.1) (joined lines) else line ∷ joined lines
+joined (line ∷ lines) = if continues line.1 then onto_next line.0 (spaced line.1) (joined lines)
+    else line ∷ joined lines
 
 -- the line is more than spaces and tabs
 abbrev pub is_seen : ℕ × List ℕ → Bool

@@ -1,4 +1,5 @@
--- What a text in the Berkeley Logic Interchange Format describes (BLIF 1992, "Model"): models, each with
+-- What a text in the Berkeley Logic Interchange Format describes (BLIF 1992, "Model"): models, each
+-- with
 -- inputs, outputs, covers and instances of other models. Names are lists of bytes.
 use Rattle.std.specs.Prelude.{ℕ, List, []}
 

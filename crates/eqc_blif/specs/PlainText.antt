@@ -1,5 +1,6 @@
 -- The plain text of a library: a line for each statement, with a space between each two words.
-use Rattle.std.specs.Prelude.{◌≡◌, ℕ, ◌&&◌, Bool, true, false, not, List, [], ◌∷◌, ◌++◌, length, map, nat_lt, ◌==◌, codes, Ok}
+use Rattle.std.specs.Prelude.{◌≡◌, ℕ, ◌&&◌, Bool, true, false, not, List, [], ◌∷◌, ◌++◌, length}
+use Rattle.std.specs.Prelude.{map, nat_lt, ◌==◌, codes, Ok}
 use Rattle.std.specs.List.{list_all, list_any, flat_map}
 use Rattle.eqc_blif.specs.Netlist.{CoverOf, InstanceOf, ModelOf}
 use Rattle.eqc_blif.specs.Lines.{continues, logical_lines}
@@ -29,14 +30,17 @@ is_plain_word word = nat_lt 0 (length word) && list_all is_word_byte word
 
 -- words that make a line: at least one, and the last doesn't end in a backslash
 abbrev pub is_plain_line : List (List ℕ) → Bool
-is_plain_line ws = nat_lt 0 (length ws) && (list_all is_plain_word ws && not (continues (with_blanks ws)))
+is_plain_line ws = nat_lt 0 (length ws) && (list_all is_plain_word ws
+    && not (continues (with_blanks ws)))
 
 -- the words of lines are read back
 abbrev pub WordsAreReadBack : Type 0
-WordsAreReadBack = (lines : List (List (List ℕ))) → list_all is_plain_line lines ≡ true → map words (contents (logical_lines (text_of lines))) ≡ lines
+WordsAreReadBack = (lines : List (List (List ℕ))) → list_all is_plain_line lines ≡ true
+    → map words (contents (logical_lines (text_of lines))) ≡ lines
 
 abbrev pub cover_lines : CoverOf → List (List (List ℕ))
-cover_lines cover = (codes ".names" ∷ (cover.columns ++ cover.output ∷ [])) ∷ map (λ row. row ∷ []) cover.rows
+cover_lines cover = (codes ".names" ∷ (cover.columns ++ cover.output ∷ [])) ∷ map (λ row. row ∷ [])
+    cover.rows
 
 abbrev pub pair_word : List ℕ × List ℕ → List ℕ
 pair_word pair = pair.0 ++ 61 ∷ pair.1
@@ -59,16 +63,20 @@ plain_text ms = text_of (library_lines ms)
 
 -- whether the rows of a cover fit its columns and end alike
 abbrev pub is_plain_cover : CoverOf → Bool
-is_plain_cover cover = list_all (has_row_shape (length cover.columns)) cover.rows && ends_alike cover
+is_plain_cover cover = list_all (has_row_shape (length cover.columns)) cover.rows
+    && ends_alike cover
 
 -- whether a formal and an actual make a pair: neither is empty, and the formal has no `=`
 abbrev pub is_plain_pair : List ℕ × List ℕ → Bool
-is_plain_pair pair = nat_lt 0 (length pair.0) && (nat_lt 0 (length pair.1) && not (list_any is_equals_sign pair.0))
+is_plain_pair pair = nat_lt 0 (length pair.0) && (nat_lt 0 (length pair.1)
+    && not (list_any is_equals_sign pair.0))
 
 abbrev pub is_plain_model : ModelOf → Bool
-is_plain_model m = list_all is_plain_cover m.covers && list_all (λ instance. list_all is_plain_pair instance.pairs) m.instances
+is_plain_model m = list_all is_plain_cover m.covers && list_all (λ instance. list_all is_plain_pair
+    instance.pairs) m.instances
 
--- a library that its plain text gives back: some models of distinct names, none of them with a name twice in a list, whose
+-- a library that its plain text gives back: some models of distinct names, none of them with a name
+-- twice in a list, whose
 -- rows and pairs are such and whose names are words, in a text of no more bytes than the limit
 pub record IsPlain (limit : ℕ) (ms : List ModelOf) : Type 0 where
   pub some : nat_lt 0 (length ms) ≡ true
@@ -80,4 +88,5 @@ pub record IsPlain (limit : ℕ) (ms : List ModelOf) : Type 0 where
 
 -- a plain library is read back from its plain text
 abbrev pub LibrariesAreReadBack : Type 0
-LibrariesAreReadBack = (limit : ℕ) (ms : List ModelOf) → IsPlain limit ms → outcome limit (plain_text ms) ≡ Ok ms
+LibrariesAreReadBack = (limit : ℕ) (ms : List ModelOf) → IsPlain limit ms
+    → outcome limit (plain_text ms) ≡ Ok ms

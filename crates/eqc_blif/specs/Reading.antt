@@ -1,4 +1,5 @@
--- What a text means (BLIF 1992; the codes are this project's): what stands after its first lines, the code of a line
+-- What a text means (BLIF 1992; the codes are this project's): what stands after its first lines,
+-- the code of a line
 -- against that, the first fault, and the library of a text without a fault.
 use Rattle.std.specs.Prelude.{
   ℕ,
@@ -35,11 +36,14 @@ use Rattle.std.specs.List.{list_all, list_any}
 use Rattle.std.specs.Option.{option_map}
 use Rattle.eqc_blif.specs.Netlist.{CoverOf, ModelOf, no_model, no_cover}
 use Rattle.eqc_blif.specs.Lines.{logical_lines}
-use Rattle.eqc_blif.specs.Words.{first_of, behind_first, arguments, without_blanks, is_pair, cover_of, instance_of}
+use Rattle.eqc_blif.specs.Words.{first_of, behind_first, arguments, without_blanks, is_pair}
+use Rattle.eqc_blif.specs.Words.{cover_of, instance_of}
 use Rattle.eqc_netlist.specs.Names.{is_named, has_twice}
 use Rattle.eqc_blif.specs.Kind.{kind_of_line}
 use Rattle.eqc_blif.specs.declared.reader.kind.Kind.{Kind}
-use Rattle.eqc_blif.specs.declared.reader.kind.Kind.TheVariants.{Model, Inputs, Outputs, Names, Subckt, End, Latch, Skipped, Unknown, Row}
+use Rattle.eqc_blif.specs.declared.reader.kind.Kind.TheVariants.{Model, Inputs, Outputs, Names}
+use Rattle.eqc_blif.specs.declared.reader.kind.Kind.TheVariants.{Subckt, End, Latch, Skipped}
+use Rattle.eqc_blif.specs.declared.reader.kind.Kind.TheVariants.{Unknown, Row}
 
 -- The open model, and whether the last line that is no row is `.names` of it.
 pub record OpenModel : Type 0 where
@@ -56,7 +60,16 @@ start = record { closed = []; open_model = None }
 
 -- a model that begins, with this name
 abbrev pub begun : List ℕ → OpenModel
-begun name = record { model = record { name = name; inputs = []; outputs = []; covers = []; instances = [] }; in_cover = false }
+begun name = record {
+  model = record {
+    name = name;
+    inputs = [];
+    outputs = [];
+    covers = [];
+    instances = [];
+  };
+  in_cover = false;
+}
 
 abbrev pub models_of : List ModelOf → Option OpenModel → List ModelOf
 models_of closed None = closed
@@ -82,7 +95,8 @@ is_in_cover (Some m) = m.in_cover
 abbrev pub last_cover : List CoverOf → CoverOf
 last_cover covers = slice_index_or covers (length covers - 1) no_cover
 
--- whether a statement of this kind stands in a model: all do but `.model` itself and what is skipped
+-- whether a statement of this kind stands in a model: all do but `.model` itself and what is
+-- skipped
 abbrev pub stands_in_model : Kind → Bool
 stands_in_model Model = false
 stands_in_model Skipped = false
@@ -130,7 +144,8 @@ row_output row = slice_index row (length row - 1)
 -- a row for n columns: n of `0`, `1` and `-`, then `0` or `1`
 abbrev pub has_row_shape : ℕ → List ℕ → Bool
 has_row_shape n row =
-    (length row == n + 1) && (list_all is_column_value (take n row) && is_output_value (slice_index row n))
+    (length row == n + 1) && (list_all is_column_value (take n row)
+    && is_output_value (slice_index row n))
 
 -- a row of another shape than that of the cover above it
 abbrev pub is_misshapen : After → Kind → List ℕ → Bool
@@ -169,7 +184,8 @@ is_name_again st Inputs ws = has_twice ((current st).inputs ++ ws)
 is_name_again st Outputs ws = has_twice ((current st).outputs ++ ws)
 is_name_again st kind ws = false
 
--- the codes from 3 on for a statement of some kind, each with whether its condition holds against what stands before
+-- the codes from 3 on for a statement of some kind, each with whether its condition holds against
+-- what stands before
 -- it; ws are the words behind the command, row is the line without blanks
 abbrev pub statement_conditions : After → Kind → List (List ℕ) → List ℕ → List (ℕ × Bool)
 statement_conditions st kind ws row =
@@ -197,7 +213,8 @@ statement_code st kind ws row = first_code (statement_conditions st kind ws row)
 abbrev pub line_code : After → List ℕ → Option ℕ
 line_code st line =
     if list_any is_bad_byte line then Some 1
-    else statement_code (opened (kind_of_line line) st) (kind_of_line line) (arguments line) (without_blanks line)
+    else statement_code (opened (kind_of_line line) st) (kind_of_line line) (arguments line)
+    (without_blanks line)
 
 abbrev pub with_inputs : List (List ℕ) → ModelOf → ModelOf
 with_inputs ws m = record m { inputs = m.inputs ++ ws }
@@ -213,7 +230,10 @@ with_instance ws m = record m { instances = m.instances ++ instance_of ws ∷ []
 
 -- the covers with one more row in the last
 abbrev pub row_added : List ℕ → List CoverOf → List CoverOf
-row_added row covers = slice_set covers (length covers - 1) (record (last_cover covers) { rows = (last_cover covers).rows ++ row ∷ [] })
+row_added row covers = slice_set covers (length covers - 1) (record (last_cover covers) {
+  rows =
+      (last_cover covers).rows ++ row ∷ [];
+})
 
 abbrev pub with_row : List ℕ → ModelOf → ModelOf
 with_row row m = record m { covers = row_added row m.covers }
@@ -231,11 +251,19 @@ abbrev pub with_new_row : List ℕ → OpenModel → OpenModel
 with_new_row row m = record { model = with_row row m.model; in_cover = m.in_cover }
 
 abbrev pub in_open_model : (OpenModel → OpenModel) → After → After
-in_open_model change st = record { closed = st.closed; open_model = option_map change st.open_model }
+in_open_model change st = record {
+  closed = st.closed;
+  open_model =
+      option_map change st.open_model;
+}
 
 -- what stands after a statement without a code, of some kind
 abbrev pub then_statement : Kind → List (List ℕ) → List ℕ → After → After
-then_statement Model ws row st = record { closed = models st; open_model = Some (begun (first_of ws)) }
+then_statement Model ws row st = record {
+  closed = models st;
+  open_model =
+      Some (begun (first_of ws));
+}
 then_statement Inputs ws row st = in_open_model (declared (with_inputs ws)) st
 then_statement Outputs ws row st = in_open_model (declared (with_outputs ws)) st
 then_statement Names ws row st = in_open_model (with_new_cover ws) st
@@ -248,7 +276,8 @@ then_statement Unknown ws row st = st
 
 -- what stands after one more line
 abbrev pub then_line : List ℕ → After → After
-then_line line st = then_statement (kind_of_line line) (arguments line) (without_blanks line) (opened (kind_of_line line) st)
+then_line line st = then_statement (kind_of_line line) (arguments line) (without_blanks line)
+    (opened (kind_of_line line) st)
 
 -- what stands after some more lines
 abbrev pub after : After → List (ℕ × List ℕ) → After
@@ -263,7 +292,8 @@ or_behind n (Some code) behind = Some (n, code)
 -- the first line that has a code, with its code
 abbrev pub first_fault : After → List (ℕ × List ℕ) → Option (ℕ × ℕ)
 first_fault st [] = None
-first_fault st (line ∷ lines) = or_behind line.0 (line_code st line.1) (first_fault (then_line line.1 st) lines)
+first_fault st (line ∷ lines) = or_behind line.0 (line_code st line.1)
+    (first_fault (then_line line.1 st) lines)
 
 -- what a text gives: its library, or the number of a line with a code
 abbrev pub Outcome : Type 0
@@ -288,4 +318,5 @@ is_too_long limit text = nat_lt limit (length text)
 
 -- the library of a text that may have so many bytes, or its first fault
 abbrev pub outcome : ℕ → List ℕ → Outcome
-outcome limit text = if is_too_long limit text then Err (0, 2) else outcome_of_lines (logical_lines text)
+outcome limit text = if is_too_long limit text then Err (0, 2) else outcome_of_lines
+    (logical_lines text)

@@ -1,6 +1,8 @@
--- What the parts of the reader do, in the words of the definitions: the cursor over lines, one row against its cover,
+-- What the parts of the reader do, in the words of the definitions: the cursor over lines, one row
+-- against its cover,
 -- one statement against what stands before it, and what `read` answers.
-use Rattle.std.specs.Prelude.{◌≡◌, ℕ, ◌+◌, Bool, true, false, ◌||◌, not, List, [], ◌∷◌, ◌++◌, length, map, Option, Some, None, if◌then◌else◌, ◌==◌}
+use Rattle.std.specs.Prelude.{◌≡◌, ℕ, ◌+◌, Bool, true, false, ◌||◌, not, List, [], ◌∷◌, ◌++◌}
+use Rattle.std.specs.Prelude.{length, map, Option, Some, None, if◌then◌else◌, ◌==◌}
 use Rattle.std.specs.List.{list_all}
 use Rattle.eqc_blif.specs.Netlist.{CoverOf, InstanceOf, ModelOf}
 use Rattle.eqc_blif.specs.Lines.{numbered}
@@ -25,7 +27,8 @@ use Rattle.eqc_blif.specs.Reading.{
   with_new_row,
 }
 use Rattle.eqc_blif.specs.declared.reader.kind.Kind.{Kind}
-use Rattle.eqc_blif.specs.declared.reader.kind.Kind.TheVariants.{Inputs, Outputs, Names, Subckt, Row}
+use Rattle.eqc_blif.specs.declared.reader.kind.Kind.TheVariants.{Inputs, Outputs, Names, Subckt}
+use Rattle.eqc_blif.specs.declared.reader.kind.Kind.TheVariants.{Row}
 
 -- one of two bytes
 abbrev pub is_either : ℕ → ℕ → ℕ → Bool
@@ -67,7 +70,13 @@ no_declarations = record { inputs = []; outputs = []; covers = []; instances = [
 
 -- the model with a name and declarations
 abbrev pub model_of : List ℕ → DeclarationsOf → ModelOf
-model_of name d = record { name = name; inputs = d.inputs; outputs = d.outputs; covers = d.covers; instances = d.instances }
+model_of name d = record {
+  name = name;
+  inputs = d.inputs;
+  outputs = d.outputs;
+  covers = d.covers;
+  instances = d.instances;
+}
 
 -- whether the open model, if there is one, has another name than the closed ones
 abbrev pub is_new_name : List ModelOf → Option OpenModel → Bool
@@ -94,7 +103,8 @@ cover_with_row row cover = record cover { rows = cover.rows ++ row ∷ [] }
 
 -- the code of a row behind the rows of a cover of so many columns
 abbrev pub code_behind : ℕ → List (List ℕ) → List ℕ → Option ℕ
-code_behind columns rows row = first_code ((7, not (has_row_shape columns row)) ∷ (8, differs_from_first rows row) ∷ [])
+code_behind columns rows row = first_code ((7, not (has_row_shape columns row))
+    ∷ (8, differs_from_first rows row) ∷ [])
 
 -- the code of a row of a cover
 abbrev pub row_code : CoverOf → List ℕ → Option ℕ
@@ -116,7 +126,8 @@ IsPair word (Some pair) = (is_pair word ≡ true) × (pair ≡ pair_of word)
 
 -- a statement gives its code, and without one leads from old to new
 abbrev pub Takes : After → Kind → List (List ℕ) → List ℕ → Option ℕ → After → Type 0
-Takes old kind ws row code new = (code ≡ statement_code old kind ws row) × (code ≡ None → new ≡ then_statement kind ws row old)
+Takes old kind ws row code new = (code ≡ statement_code old kind ws row)
+    × (code ≡ None → new ≡ then_statement kind ws row old)
 
 -- a line gives its code, and without one leads from old to new
 abbrev pub TakesLine : After → List ℕ → Option ℕ → After → Type 0
@@ -136,7 +147,8 @@ abbrev pub cover_code : List (List ℕ) → Option ℕ
 cover_code ws = if length ws == 0 then Some 10 else None
 
 abbrev pub instance_code : List (List ℕ) → Option ℕ
-instance_code ws = if not (list_all is_pair (behind_first ws)) then Some 9 else (if length ws == 0 then Some 10 else None)
+instance_code ws = if not (list_all is_pair (behind_first ws)) then Some 9 else
+    (if length ws == 0 then Some 10 else None)
 
 abbrev pub row_code_in : List ℕ → OpenModel → Option ℕ
 row_code_in row m = if not m.in_cover then Some 6 else row_code (last_cover m.model.covers) row

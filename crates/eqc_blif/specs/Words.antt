@@ -1,5 +1,6 @@
 -- The words of a logical line, and what they are cut into (BLIF 1992, section 1).
-use Rattle.std.specs.Prelude.{ℕ, ◌-◌, Bool, ◌&&◌, not, List, [], ◌∷◌, length, take, map, filter, slice_index_or, nat_lt, ◌==◌}
+use Rattle.std.specs.Prelude.{ℕ, ◌-◌, Bool, ◌&&◌, not, List, [], ◌∷◌, length, take, map, filter}
+use Rattle.std.specs.Prelude.{slice_index_or, nat_lt, ◌==◌}
 use Rattle.std.specs.List.{slice_split, before_first, after_first}
 use Rattle.eqc_blif.specs.Lines.{is_blank}
 use Rattle.eqc_blif.specs.Netlist.{CoverOf, InstanceOf}
@@ -40,9 +41,15 @@ pair_of word = (before_first is_equals_sign word, after_first is_equals_sign wor
 abbrev pub is_pair : List ℕ → Bool
 is_pair word = nat_lt 0 (length (pair_of word).0) && nat_lt 0 (length (pair_of word).1)
 
--- the cover that `.names` opens with these words: the last is its output, those before it are its columns
+-- the cover that `.names` opens with these words: the last is its output, those before it are its
+-- columns
 abbrev pub cover_of : List (List ℕ) → CoverOf
-cover_of ws = record { columns = take (length ws - 1) ws; output = slice_index_or ws (length ws - 1) []; rows = [] }
+cover_of ws = record {
+  columns = take (length ws - 1) ws;
+  output =
+      slice_index_or ws (length ws - 1) [];
+  rows = [];
+}
 
 -- the instance that `.subckt` makes with these words: a model and pairs
 abbrev pub instance_of : List (List ℕ) → InstanceOf

@@ -1,4 +1,5 @@
--- Truth tables of some covers of the netlists of a pair, each by the number that its rows have in its netlist.
+-- Truth tables of some covers of the netlists of a pair, each by the number that its rows have in
+-- its netlist.
 use Rattle.std.specs.Prelude.{◌≡◌, ℕ, ◌≤◌, List, [], nat_eq, Some, slice_index_or}
 use Rattle.std.specs.Map.{lookup}
 use Rattle.eqc_netlist.specs.Cover.{cover_value}
@@ -24,7 +25,12 @@ pub record TablesOf : Type 0 where
   pub assumed : List (ℕ × CoverTable)
 
 abbrev pub tables_in : PairTables → TablesOf
-tables_in t = record { first = t.first.entries; second = t.second.entries; assumed = t.assumed.entries }
+tables_in t = record {
+  first = t.first.entries;
+  second = t.second.entries;
+  assumed =
+      t.assumed.entries;
+}
 
 -- each table is that of a cover of its netlist
 pub record ArePairTables (p : PairOf) (tables : TablesOf) : Type 0 where

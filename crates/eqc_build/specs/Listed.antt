@@ -1,4 +1,5 @@
--- What signals of a netlist have, as lists with a place for each signal: kept as such a list, or in a map of few of them.
+-- What signals of a netlist have, as lists with a place for each signal: kept as such a list, or in
+-- a map of few of them.
 use Rattle.std.specs.Prelude.{ℕ, ◌<◌, List, map, nat_eq, Option, IsSome}
 use Rattle.std.specs.List.{range_with_len}
 use Rattle.std.specs.Option.{unwrap_or}

@@ -14,4 +14,5 @@ IsMetOf rows (Split columns expansion) = IsExpansionOf rows columns expansion
 
 -- what is known of each cover is so of the rows that have its number
 pub record AreMetOf (f : FlatOf) (met : List (ℕ × Met)) : Type 0 where
-  pub each : (r : ℕ) (m : Met) → lookup (nat_eq r) met ≡ Some m → IsMetOf (slice_index_or f.rows r []) m
+  pub each : (r : ℕ) (m : Met) → lookup (nat_eq r) met ≡ Some m
+      → IsMetOf (slice_index_or f.rows r []) m

@@ -18,24 +18,38 @@ use Rattle.eqc_guard.specs.Telling.{IsResult}
 abbrev pub IsOrdered : Op → ℕ → ℕ → ℕ × ℕ → Type 0
 IsOrdered op f g p = (p ≡ (f, g)) ⊎ ((op ≢ AndNot) × (p ≡ (g, f)))
 
--- the name x was counted up after a second look: it is held once more, and the first announcement word announces nothing
+-- the name x was counted up after a second look: it is held once more, and the first announcement
+-- word announces nothing
 pub record IsTaken (x : ℕ) (old new : Standing) : Type 0 where
   pub forest : new.forest ≡ old.forest
-  pub core : new.known.core ≡ record old.known.core { held = old.known.core.held ++ x ∷ []; phases = set old.known.core.phases 0 Idle }
-  pub trees : (y : ℕ) → 2 ≤ y → 0 < times y old.known.core.held → tree_of new.known y ≡ tree_of old.known y
-  pub right : (c word : ℕ) → phase_at old.known.core 0 ≡ Seen c word → IsResult old.known word (tree_of new.known x)
+  pub core : new.known.core ≡ record old.known.core {
+    held = old.known.core.held ++ x ∷ [];
+    phases =
+        set old.known.core.phases 0 Idle;
+  }
+  pub trees : (y : ℕ) → 2 ≤ y → 0 < times y old.known.core.held → tree_of new.known y
+      ≡ tree_of old.known y
+  pub right : (c word : ℕ) → phase_at old.known.core 0 ≡ Seen c word
+      → IsResult old.known word (tree_of new.known x)
   pub snapshots : KeepsSnapshots old.known new.known
   pub copy : KeepsCopy old.known new.known
   pub known : IsKnown new.known
 
--- a lookup found r: it is held once more unless it is a constant, its function is the operation's of the operands' functions, and what was held has its tree
+-- a lookup found r: it is held once more unless it is a constant, its function is the operation's
+-- of the operands' functions, and what was held has its tree
 pub record IsHit (op : Op) (f g r : ℕ) (old new : Standing) : Type 0 where
   pub forest : new.forest ≡ old.forest
   pub phase : Phase
   pub quiet : IsQuiet phase
-  pub core : new.known.core ≡ record old.known.core { held = old.known.core.held ++ slots_of (r ∷ []); phases = set old.known.core.phases 0 phase }
-  pub result : (a : ℕ → Bool) → operate op (value (tree_of old.known f) a) (value (tree_of old.known g) a) ≡ value (tree_of new.known r) a
-  pub trees : (x : ℕ) → 2 ≤ x → 0 < times x old.known.core.held → tree_of new.known x ≡ tree_of old.known x
+  pub core : new.known.core ≡ record old.known.core {
+    held = old.known.core.held
+        ++ slots_of (r ∷ []);
+    phases = set old.known.core.phases 0 phase;
+  }
+  pub result : (a : ℕ → Bool) → operate op (value (tree_of old.known f) a)
+      (value (tree_of old.known g) a) ≡ value (tree_of new.known r) a
+  pub trees : (x : ℕ) → 2 ≤ x → 0 < times x old.known.core.held → tree_of new.known x
+      ≡ tree_of old.known x
   pub snapshots : KeepsSnapshots old.known new.known
   pub copy : KeepsCopy old.known new.known
   pub known : IsKnown new.known

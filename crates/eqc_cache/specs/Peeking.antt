@@ -1,4 +1,5 @@
--- A snapshot of a result that the cache has: it is read under its announcement, and no count has it.
+-- A snapshot of a result that the cache has: it is read under its announcement, and no count has
+-- it.
 use Rattle.std.specs.Prelude.{◌≡◌, ℕ, ◌<◌, ◌≤◌, ◌⊎◌, [], ◌∷◌, ◌++◌, Bool}
 use Rattle.eqc_tree.specs.Tree.{value}
 use Rattle.eqc_tree.specs.Operation.{operate}
@@ -13,13 +14,15 @@ use Rattle.eqc_guard.specs.Standing.{Standing}
 use Rattle.eqc_guard.specs.Acquiring.{IsAt, IsPassed}
 use Rattle.eqc_cache.specs.declared.peeking.Snapshot.{Snapshot}
 
--- the snapshot is out at the worker: it is of a constant, or of a name that its announcement word, which is not the first, has confirmed
+-- the snapshot is out at the worker: it is of a constant, or of a name that its announcement word,
+-- which is not the first, has confirmed
 abbrev pub IsOut : View → Snapshot → Type 0
 IsOut v s = (s.number < 2) ⊎ IsSnapshot v s.word s.number
 
 -- the tree of the name is the operation's function of the operands' functions, as they were before
 abbrev pub HasFunction : Op → ℕ → ℕ → ℕ → Known → Known → Type 0
-HasFunction op f g r old new = (a : ℕ → Bool) → operate op (value (tree_of old f) a) (value (tree_of old g) a) ≡ value (tree_of new r) a
+HasFunction op f g r old new = (a : ℕ → Bool)
+    → operate op (value (tree_of old f) a) (value (tree_of old g) a) ≡ value (tree_of new r) a
 
 -- an announcement word that announced nothing announces nothing still, and nothing else has changed
 pub record Passes (old new : Standing) : Type 0 where
@@ -27,7 +30,8 @@ pub record Passes (old new : Standing) : Type 0 where
   pub was_quiet : IsQuiet (phase_at old.known.core word)
   pub passed : IsPassed word old new
 
--- a snapshot was taken: that of a constant by no word, that of a node by the announcement of a word that announced nothing; nothing else has changed
+-- a snapshot was taken: that of a constant by no word, that of a node by the announcement of a word
+-- that announced nothing; nothing else has changed
 pub record IsPeeked (op : Op) (f g : ℕ) (s : Snapshot) (old new : Standing) : Type 0 where
   pub function : HasFunction op f g s.number old.known new.known
   pub constant : s.number < 2 → Passes old new
@@ -37,12 +41,17 @@ pub record IsPeeked (op : Op) (f g : ℕ) (s : Snapshot) (old new : Standing) : 
 abbrev pub HasFreeWord : View → Type 0
 HasFreeWord v = (k : ℕ) × IsFree v k
 
--- a name that is a constant, or stays, is held once more, and nothing else has changed; each name that was held, or had a snapshot, has its tree, and so has this one
+-- a name that is a constant, or stays, is held once more, and nothing else has changed; each name
+-- that was held, or had a snapshot, has its tree, and so has this one
 pub record IsKept (x : ℕ) (old new : Standing) : Type 0 where
   pub forest : new.forest ≡ old.forest
-  pub core : new.known.core ≡ record old.known.core { held = old.known.core.held ++ slots_of (x ∷ []) }
+  pub core : new.known.core ≡ record old.known.core {
+    held = old.known.core.held
+        ++ slots_of (x ∷ []);
+  }
   pub tree : tree_of new.known x ≡ tree_of old.known x
-  pub trees : (y : ℕ) → 2 ≤ y → 0 < times y old.known.core.held → tree_of new.known y ≡ tree_of old.known y
+  pub trees : (y : ℕ) → 2 ≤ y → 0 < times y old.known.core.held → tree_of new.known y
+      ≡ tree_of old.known y
   pub snapshots : KeepsSnapshots old.known new.known
   pub copy : KeepsCopy old.known new.known
   pub known : IsKnown new.known

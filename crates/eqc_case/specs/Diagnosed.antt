@@ -1,4 +1,5 @@
--- What is told beside a report of where differences begin, and up to where netlists are known to be equal.
+-- What is told beside a report of where differences begin, and up to where netlists are known to be
+-- equal.
 use Rattle.std.specs.Prelude.{All}
 use Rattle.eqc_pair.specs.PairOf.{PairOf}
 use Rattle.eqc_place.specs.Places.{AreLocated, IsMeeting}

@@ -1,5 +1,7 @@
--- Of which outputs a run tells that was stopped: those of the pair that is made of what it was given.
-use Rattle.std.specs.Prelude.{◌≡◌, ◌⊎◌, ℕ, Bool, false, List, Option, Some, None, Result, Ok, Err, IfOk, IfErr, is_some}
+-- Of which outputs a run tells that was stopped: those of the pair that is made of what it was
+-- given.
+use Rattle.std.specs.Prelude.{◌≡◌, ◌⊎◌, ℕ, Bool, false, List, Option, Some, None, Result, Ok, Err}
+use Rattle.std.specs.Prelude.{IfOk, IfErr, is_some}
 use Rattle.eqc_netlist.specs.Graph.{FlatOf}
 use Rattle.eqc_flat.specs.Flattened.{IsFlatOf}
 use Rattle.eqc_pair.specs.PairOf.{PairOf}
@@ -44,7 +46,8 @@ pub record IsPairOfFlats (given : GivenOf) (f g : FlatOf) (p : PairOf) : Type 0 
   pub chosen : p.chosen ≡ given.outputs
 
 -- that of two main models that are found
-pub record IsPairOfFound (given : GivenOf) (first second : Result MainOf (ℕ × ℕ)) (p : PairOf) : Type 0 where
+pub record IsPairOfFound (given : GivenOf) (first second : Result MainOf (ℕ × ℕ)) (p : PairOf) :
+    Type 0 where
   pub flat : IsFlatFound first p.first
   pub other : IsFlatFound second p.second
   pub assumes : IsFlatAssumed given.options.bytes given.assume p.assumes
@@ -52,7 +55,8 @@ pub record IsPairOfFound (given : GivenOf) (first second : Result MainOf (ℕ ×
 
 -- that of the models that a run compares
 abbrev pub IsPairOfGiven : GivenOf → PairOf → Type 0
-IsPairOfGiven given p = IsPairOfFound given (first_found given.options.bytes given.texts) (second_found given.options.bytes given.texts) p
+IsPairOfGiven given p = IsPairOfFound given (first_found given.options.bytes given.texts)
+    (second_found given.options.bytes given.texts) p
 
 -- ---- what is told of it
 
@@ -66,14 +70,18 @@ pub record IsGivenUp (p : PairOf) (left : Left) : Type 0 where
 abbrev pub TellsLeft : PairOf → Undecided → Undecided → Stop → Type 0
 TellsLeft p old new stop = IsGivenUp p new.left ⊎ ((stop ≡ Memory) × KeepsTold old new)
 
--- a comparison of a pair was made: where it was given up that is told, and what was seen differs in that pair
-pub record IsToldOfPair {A : Type 0} (p : PairOf) (result : Result A Stop) (old new : Undecided) : Type 0 where
+-- a comparison of a pair was made: where it was given up that is told, and what was seen differs in
+-- that pair
+pub record IsToldOfPair {A : Type 0} (p : PairOf) (result : Result A Stop) (old new : Undecided) :
+    Type 0 where
   pub seen : IsLeftOf p old → IsLeftOf p new
   pub kept : IfOk result (λ _. KeepsTold old new)
   pub left : IfErr result (TellsLeft p old new)
 
--- the same of a pair of a kind, or none was compared, and without want of memory there is no stop then
-pub data IsToldOf {A : Type 0} (P : PairOf → Type 0) (result : Result A Stop) (old new : Undecided) : Type 0 where
+-- the same of a pair of a kind, or none was compared, and without want of memory there is no stop
+-- then
+pub data IsToldOf {A : Type 0} (P : PairOf → Type 0) (result : Result A Stop)
+    (old new : Undecided) : Type 0 where
   none_compared : IfErr result (λ stop. stop ≡ Memory) → new ≡ old → IsToldOf P result old new
   was_compared : (p : PairOf) → P p → IsToldOfPair p result old new → IsToldOf P result old new
 
@@ -85,7 +93,8 @@ pub record IsNoneTold (left : Undecided) : Type 0 where
 -- what a run tells that was stopped, of what was read for it
 pub data IsStopToldOf (given : GivenOf) (stop : Stop) (left : Undecided) : Type 0 where
   of_none : stop ≡ Memory → IsNoneTold left → IsStopToldOf given stop left
-  of_pair : (p : PairOf) → IsPairOfGiven given p → IsLeftOf p left → IsGivenUp p left.left ⊎ ((stop ≡ Memory) × (left.left.count ≡ 0)) → IsStopToldOf given stop left
+  of_pair : (p : PairOf) → IsPairOfGiven given p → IsLeftOf p left → IsGivenUp p left.left
+      ⊎ ((stop ≡ Memory) × (left.left.count ≡ 0)) → IsStopToldOf given stop left
 
 -- beside a report that is a stop the outputs are told that are left
 abbrev pub IsToldBeside : GivenOf → Report → Undecided → Type 0
@@ -95,7 +104,8 @@ IsToldBeside given report.Vacuous left = Unit {0}
 IsToldBeside given (report.Refused refusal) left = Unit {0}
 IsToldBeside given (report.Stopped stop) left = IsStopToldOf given stop left
 
--- what is told beside a report is told of what was read for it, and where nothing was, nothing is told
+-- what is told beside a report is told of what was read for it, and where nothing was, nothing is
+-- told
 abbrev pub IsLeftBeside : Option Case → Report → Undecided → Type 0
 IsLeftBeside None report left = IsNoneTold left
 IsLeftBeside (Some case) report left = IsToldBeside (given_of case) report left

@@ -8,6 +8,7 @@ pub record Gives (left_before left : Option (List ℕ)) (text_before text : List
   pub grown : text ≡ text_before ++ bytes
   pub taken : Consumes left_before left bytes
 
--- what is read of the bytes of a reader, of which so many are taken at most: all of them, but of more than these one more alone
+-- what is read of the bytes of a reader, of which so many are taken at most: all of them, but of
+-- more than these one more alone
 unfoldable pub bytes_read : ℕ → List ℕ → List ℕ
 bytes_read limit bytes = take (suc limit) bytes

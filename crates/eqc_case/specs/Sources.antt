@@ -18,7 +18,15 @@ items_of text = option_map (λ v. v.items) text
 -- a case as what a run is given
 abbrev pub given_of : Case → GivenOf
 given_of case =
-    record { texts = read_texts case.names case.first.items (items_of case.second); order = items_of case.order; assume = items_of case.assume; outputs = case.outputs; options = case.options }
+    record {
+      texts = read_texts case.names case.first.items (items_of case.second);
+      order =
+          items_of case.order;
+      assume = items_of case.assume;
+      outputs = case.outputs;
+      options =
+          case.options;
+    }
 
 -- a text is the second of two
 abbrev pub IsSecond : Case → List ℕ → Type 0
@@ -29,19 +37,25 @@ abbrev pub IsRead : ℕ → Option (List ℕ) → List ℕ → Type 0
 IsRead limit known text = IfSome known (λ bytes. text ≡ bytes_read limit bytes)
 
 -- of one that may be missing
-abbrev pub MayBeRead : {R : Type 0} → ℕ → (R → Option (List ℕ)) → Option R → Option (List ℕ) → Type 0
+abbrev pub MayBeRead : {R : Type 0} → ℕ → (R → Option (List ℕ)) → Option R → Option (List ℕ)
+    → Type 0
 MayBeRead limit remaining None None = Unit {0}
 MayBeRead limit remaining None (Some text) = ⊥
 MayBeRead limit remaining (Some reader) None = ⊥
 MayBeRead limit remaining (Some reader) (Some text) = IsRead limit (remaining reader) text
 
 -- of one text, or of two
-abbrev pub AreTextsRead : {R : Type 0} → ℕ → (R → Option (List ℕ)) → Texts R → List ℕ → Option (List ℕ) → Type 0
-AreTextsRead limit remaining (One text) first second = IsRead limit (remaining text) first × (second ≡ None)
-AreTextsRead limit remaining (Two text other) first second = IsRead limit (remaining text) first × MayBeRead limit remaining (Some other) second
+abbrev pub AreTextsRead : {R : Type 0} → ℕ → (R → Option (List ℕ)) → Texts R → List ℕ
+    → Option (List ℕ) → Type 0
+AreTextsRead limit remaining (One text) first second = IsRead limit (remaining text) first
+    × (second ≡ None)
+AreTextsRead limit remaining (Two text other) first second = IsRead limit (remaining text) first
+    × MayBeRead limit remaining (Some other) second
 
--- of all that a run is given, where the text of a netlist may have so many bytes, and an order text 16,777,216
-pub record AreRead {R : Type 0} (limit : ℕ) (remaining : R → Option (List ℕ)) (given : Given R) (case : Case) : Type 0 where
+-- of all that a run is given, where the text of a netlist may have so many bytes, and an order text
+-- 16,777,216
+pub record AreRead {R : Type 0} (limit : ℕ) (remaining : R → Option (List ℕ)) (given : Given R)
+    (case : Case) : Type 0 where
   pub texts : AreTextsRead limit remaining given.texts case.first.items (items_of case.second)
   pub order : MayBeRead 16777216 remaining given.order (items_of case.order)
   pub assume : MayBeRead limit remaining given.assume (items_of case.assume)

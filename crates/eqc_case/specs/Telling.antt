@@ -21,15 +21,21 @@ IsToldRefusal side refusal (Err stop) = IsRefused side refusal (Err stop)
 
 -- a report with warnings
 abbrev pub IsToldWith : Result Report Stop → Result Warnings AllocError → Result Told Stop → Type 0
-IsToldWith (Ok report) (Ok warnings) result = result ≡ Ok (record { report = report; warnings = warnings })
+IsToldWith (Ok report) (Ok warnings) result = result ≡ Ok (record {
+  report = report;
+  warnings =
+      warnings;
+})
 IsToldWith (Ok report) (Err error) result = result ≡ Err Memory
 IsToldWith (Err stop) warnings result = result ≡ Err stop
 
 -- where a report says how netlists compare, its warnings are those on the texts
 abbrev pub WarnsOf : GivenOf → ReportOf → Warnings → Type 0
-WarnsOf given report warnings = IsComparison report → warnings ≡ warnings_on given.options.bytes given.texts
+WarnsOf given report warnings = IsComparison report → warnings ≡ warnings_on given.options.bytes
+    given.texts
 
 -- the answer on the texts with its warnings, or why the run was stopped
 abbrev pub Tells : GivenOf → Result Told Stop → Type 0
-Tells given (Ok told) = (report_of told.report ≡ texts_answer given) × WarnsOf given (report_of told.report) told.warnings
+Tells given (Ok told) = (report_of told.report ≡ texts_answer given)
+    × WarnsOf given (report_of told.report) told.warnings
 Tells given (Err stop) = MayStop (texts_answer given) stop

@@ -1,5 +1,7 @@
--- For the proofs alone: shapes, by which classes are told. A shape is a variable, a constant, or a gate over classes.
-use Rattle.std.specs.Prelude.{ℕ, ◌<◌, Bool, false, ◌&&◌, ◌==◌, List, [], ◌++◌, length, map, slice_index, slice_index_or}
+-- For the proofs alone: shapes, by which classes are told. A shape is a variable, a constant, or a
+-- gate over classes.
+use Rattle.std.specs.Prelude.{ℕ, ◌<◌, Bool, false, ◌&&◌, ◌==◌, List, [], ◌++◌, length, map}
+use Rattle.std.specs.Prelude.{slice_index, slice_index_or}
 use Rattle.std.specs.Str.{bytes_eq}
 use Rattle.std.specs.Bool.{beq}
 use Rattle.std.specs.Hash.{u8, u16, u32, bool, slice}
@@ -28,10 +30,12 @@ structure_at structures c = slice_index_or structures c (constant false)
 abbrev pub grown : List (List (List ℕ)) → List Structure → Shape → Structure
 grown rows structures (Variable v) = variable v
 grown rows structures (Constant b) = constant b
-grown rows structures (Gate r columns) = gate (slice_index_or rows r []) (in_row (map (structure_at structures) columns))
+grown rows structures (Gate r columns) =
+    gate (slice_index_or rows r []) (in_row (map (structure_at structures) columns))
 
 -- whether a shape speaks of so many rows and classes
 abbrev pub IsShapeWithin : ℕ → ℕ → Shape → Type 0
 IsShapeWithin rows classes (Variable v) = Unit {0}
 IsShapeWithin rows classes (Constant b) = Unit {0}
-IsShapeWithin rows classes (Gate r columns) = (r < rows) × ((k : ℕ) → k < length columns → slice_index columns k < classes)
+IsShapeWithin rows classes (Gate r columns) = (r < rows) × ((k : ℕ) → k < length columns
+    → slice_index columns k < classes)

@@ -1,4 +1,5 @@
--- What the check knows of the literals that it takes to be false, and of what is left of a clause without them.
+-- What the check knows of the literals that it takes to be false, and of what is left of a clause
+-- without them.
 use Rattle.std.specs.Prelude.{◌≡◌, ℕ, ◌==◌, Bool, true, false, not, List, ◌∷◌, ⊤, slice_index_or}
 use Rattle.std.specs.List.{list_any}
 use Rattle.eqc_graph.specs.declared.node.Node.{Node}
@@ -17,17 +18,21 @@ pub record AreMarked (marks : List Bool) (literals : List ℕ) : Type 0 where
 
 -- wherever one of the first literals is true, one of the others is
 pub record Implies (c d : List ℕ) : Type 0 where
-  pub implies : (nodes : List Node) (a : ℕ → Bool) → clause_value nodes a c ≡ true → clause_value nodes a d ≡ true
+  pub implies : (nodes : List Node) (a : ℕ → Bool) → clause_value nodes a c ≡ true
+      → clause_value nodes a d ≡ true
 
 -- the same in one graph
 pub record LeadsTo (nodes : List Node) (c d : List ℕ) : Type 0 where
   pub leads : (a : ℕ → Bool) → clause_value nodes a c ≡ true → clause_value nodes a d ≡ true
 
--- the first literals are complements of the others: one of them is true just where one of the others is false
+-- the first literals are complements of the others: one of them is true just where one of the
+-- others is false
 pub record AreComplements (c d : List ℕ) : Type 0 where
-  pub value : (nodes : List Node) (a : ℕ → Bool) → clause_value nodes a c ≡ list_any (λ l. not (literal_value nodes a l)) d
+  pub value : (nodes : List Node) (a : ℕ → Bool) → clause_value nodes a c
+      ≡ list_any (λ l. not (literal_value nodes a l)) d
 
--- wherever the clause is true, one of those literals is that are taken to be false, or the one that is left
+-- wherever the clause is true, one of those literals is that are taken to be false, or the one that
+-- is left
 abbrev pub IsLeft : List ℕ → List ℕ → Left → Type 0
 IsLeft clause falsified Nothing = Implies clause falsified
 IsLeft clause falsified (One l) = Implies clause (l ∷ falsified)
@@ -45,4 +50,5 @@ pub record IsLeftOf (nodes : List Node) (falsified : List ℕ) (left : Left) : T
 
 -- the same of a clause of a node whose literal is n, wherever n has that node's value
 pub record IsLeftOfGate (n : ℕ) (node : Node) (falsified : List ℕ) (left : Left) : Type 0 where
-  pub under : (nodes : List Node) (a : ℕ → Bool) → literal_value nodes a n ≡ node_value a (literal_value nodes a) node → IsLeftUnder nodes a falsified left
+  pub under : (nodes : List Node) (a : ℕ → Bool) → literal_value nodes a n
+      ≡ node_value a (literal_value nodes a) node → IsLeftUnder nodes a falsified left

@@ -1,5 +1,6 @@
 -- What clauses say of a graph. A clause is a list of literals, and is true where one of them is.
-use Rattle.std.specs.Prelude.{◌≡◌, ◌≢◌, ℕ, ◌<◌, Bool, true, not, List, [], ◌∷◌, length, ⊤, slice_index_or}
+use Rattle.std.specs.Prelude.{◌≡◌, ◌≢◌, ℕ, ◌<◌, Bool, true, not, List, [], ◌∷◌, length, ⊤}
+use Rattle.std.specs.Prelude.{slice_index_or}
 use Rattle.std.specs.List.{list_any}
 use Rattle.eqc_graph.specs.declared.node.Node.{Node}
 use Rattle.eqc_graph.specs.Graph.{literal_value, IsWithin}
@@ -42,4 +43,5 @@ pub record GivesUp (old new : List (List ℕ)) (number : ℕ) : Type 0 where
 
 -- whatever the values of the variables, one of these literals is false
 pub record IsRefuted (nodes : List Node) (assumptions : List ℕ) : Type 0 where
-  pub one_is_false : (a : ℕ → Bool) → list_any (λ l. not (literal_value nodes a l)) assumptions ≡ true
+  pub one_is_false : (a : ℕ → Bool) → list_any (λ l. not (literal_value nodes a l)) assumptions
+      ≡ true

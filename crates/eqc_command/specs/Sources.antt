@@ -9,7 +9,8 @@ use Rattle.eqc_command.specs.declared.source.Source.TheVariants.{Input, File}
 use Rattle.eqc_command.specs.declared.source.Sources.{Sources}
 
 -- the bytes that a source has left
-abbrev pub source_remaining : {R F : Type 0} → (R → Option (List ℕ)) → (F → Option (List ℕ)) → Source R F → Option (List ℕ)
+abbrev pub source_remaining : {R F : Type 0} → (R → Option (List ℕ)) → (F → Option (List ℕ))
+    → Source R F → Option (List ℕ)
 source_remaining input_remaining file_remaining (Input input) = input_remaining input
 source_remaining input_remaining file_remaining (File path file) = file_remaining file
 
@@ -26,19 +27,22 @@ MayBeFileOf (Some wanted) None = ⊥
 MayBeFileOf (Some wanted) (Some source) = IsFileOf wanted source
 
 -- the texts of one path or of two
-abbrev pub AreFilesOf : {R F : Type 0} → Bor (List ℕ) → Option (Bor (List ℕ)) → Texts (Source R F) → Type 0
+abbrev pub AreFilesOf : {R F : Type 0} → Bor (List ℕ) → Option (Bor (List ℕ)) → Texts (Source R F)
+    → Type 0
 AreFilesOf first None (One text) = IsFileOf first text
 AreFilesOf first None (Two text other) = ⊥
 AreFilesOf first (Some second) (One text) = ⊥
 AreFilesOf first (Some second) (Two text other) = IsFileOf first text × IsFileOf second other
 
 -- without a path the text is the input
-abbrev pub AreTextsOf : {R F : Type 0} → Option (Bor (List ℕ)) → Option (Bor (List ℕ)) → R → Texts (Source R F) → Type 0
+abbrev pub AreTextsOf : {R F : Type 0} → Option (Bor (List ℕ)) → Option (Bor (List ℕ)) → R
+    → Texts (Source R F) → Type 0
 AreTextsOf None second input texts = texts ≡ One (Input input)
 AreTextsOf (Some first) second input texts = AreFilesOf first second texts
 
 -- the texts, the order text and the assumption's are those that are asked for
-pub record AreAskedFor {R F : Type 0} (request : Request) (input : R) (sources : Sources R F) : Type 0 where
+pub record AreAskedFor {R F : Type 0} (request : Request) (input : R) (sources : Sources R F) : Type
+    0 where
   pub texts : AreTextsOf request.first request.second input sources.texts
   pub order : MayBeFileOf request.order sources.order
   pub assume : MayBeFileOf request.assume sources.assume

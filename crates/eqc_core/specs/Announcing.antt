@@ -1,14 +1,17 @@
--- A counted load without waiting (Anderson, Blelloch and Wei 2021: acquire and release): look at a cell, announce its result, look again; and the withdrawal.
+-- A counted load without waiting (Anderson, Blelloch and Wei 2021: acquire and release): look at a
+-- cell, announce its result, look again; and the withdrawal.
 use Rattle.std.specs.Prelude.{◌≡◌, ℕ, ◌<◌, ◌≤◌, if◌then◌else◌, eqb}
 use Rattle.eqc_core.specs.declared.phase.Phase.{Phase}
-use Rattle.eqc_core.specs.declared.phase.Phase.TheVariants.{Idle, Seen, Announced, Confirmed, Missed}
+use Rattle.eqc_core.specs.declared.phase.Phase.TheVariants.{Idle, Seen, Announced, Confirmed}
+use Rattle.eqc_core.specs.declared.phase.Phase.TheVariants.{Missed}
 use Rattle.eqc_core.specs.View.{View, phase_at}
 use Rattle.eqc_core.specs.Words.{result_of}
 use Rattle.eqc_core.specs.Moves.{IsReady, IsQuiet, with_phase}
 
 -- a look at the cell c, for the k-th announcement word
 abbrev pub MayLook : View → ℕ → ℕ → Type 0
-MayLook v k c = IsReady v × (k < v.sizes.announcements) × (c < v.sizes.cells) × IsQuiet (phase_at v k)
+MayLook v k c = IsReady v × (k < v.sizes.announcements) × (c < v.sizes.cells)
+    × IsQuiet (phase_at v k)
 
 abbrev pub looked : View → ℕ → ℕ → ℕ → View
 looked v k c word = with_phase v k (Seen c word)
@@ -56,7 +59,8 @@ MayRecheck v k = IsReady v × (k < v.sizes.announcements) × IsAnnounced (phase_
 abbrev pub rechecked_phase : Phase → ℕ → Phase
 rechecked_phase Idle found = Idle
 rechecked_phase (Seen c word) found = Seen c word
-rechecked_phase (Announced c word) found = if eqb found word then Confirmed (result_of word) else Missed (result_of word)
+rechecked_phase (Announced c word) found = if eqb found word then Confirmed (result_of word) else
+    Missed (result_of word)
 rechecked_phase (Confirmed y) found = Confirmed y
 rechecked_phase (Missed y) found = Missed y
 

@@ -1,4 +1,5 @@
--- A count word goes up and down with the names that a worker holds (Anderson, Blelloch and Wei 2021: increment and decrement).
+-- A count word goes up and down with the names that a worker holds (Anderson, Blelloch and Wei
+-- 2021: increment and decrement).
 use Rattle.std.specs.Prelude.{◌≡◌, ℕ, ◌-◌, ◌^◌, ◌<◌, ◌≤◌, ◌⊎◌, [], ◌∷◌, ◌++◌, length, Some}
 use mathlib.Core.Option.{some}
 use lib.ListN.{get_elem?}
@@ -8,12 +9,14 @@ use Rattle.eqc_core.specs.Words.{times, children}
 use Rattle.eqc_core.specs.Tables.{table_has}
 use Rattle.eqc_core.specs.Moves.{IsReady, with_held, without}
 
--- the view knows that the slot stays: it holds it, has confirmed it, has it in the stripe in hand, or read it as a child of a node that it holds
+-- the view knows that the slot stays: it holds it, has confirmed it, has it in the stripe in hand,
+-- or read it as a child of a node that it holds
 abbrev pub Knows : View → ℕ → Type 0
 Knows v x =
     (0 < times x v.held)
     ⊎ (((k : ℕ) × (get_elem? v.phases k ≡ some (Confirmed x)))
-    ⊎ (((h : Hand) × (v.hand ≡ Some h) × (0 < table_has x h.entries)) ⊎ ((r : Read) × (v.read ≡ Some r) × (0 < times x (children r.word)))))
+    ⊎ (((h : Hand) × (v.hand ≡ Some h) × (0 < table_has x h.entries))
+    ⊎ ((r : Read) × (v.read ≡ Some r) × (0 < times x (children r.word)))))
 
 abbrev pub MayUp : View → ℕ → Type 0
 MayUp v x = IsReady v × (2 ≤ x) × (x < v.sizes.names) × (length v.held < 2 ^ 32 - 1) × Knows v x

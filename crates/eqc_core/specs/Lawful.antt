@@ -1,10 +1,14 @@
--- When a state is lawful (Anderson, Blelloch and Wei 2021: a count is the number of owners, and what is announced in time is not given again). Every state of every run is, and each step keeps it so.
-use Rattle.std.specs.Prelude.{◌≡◌, ℕ, ◌+◌, ◌*◌, ◌^◌, ◌<◌, ◌≤◌, ◌⊎◌, List, length, get_or, sum_by, eqb, cond, true, false, Some, ◌&&◌}
+-- When a state is lawful (Anderson, Blelloch and Wei 2021: a count is the number of owners, and
+-- what is announced in time is not given again). Every state of every run is, and each step keeps
+-- it so.
+use Rattle.std.specs.Prelude.{◌≡◌, ℕ, ◌+◌, ◌*◌, ◌^◌, ◌<◌, ◌≤◌, ◌⊎◌, List, length, get_or, sum_by}
+use Rattle.std.specs.Prelude.{eqb, cond, true, false, Some, ◌&&◌}
 use mathlib.Core.Option.{some}
 use lib.ListN.{get_elem?}
 use Rattle.eqc_core.specs.declared.sizes.Sizes.{Sizes}
 use Rattle.eqc_core.specs.declared.phase.Phase.{Phase}
-use Rattle.eqc_core.specs.declared.phase.Phase.TheVariants.{Idle, Seen, Announced, Confirmed, Missed}
+use Rattle.eqc_core.specs.declared.phase.Phase.TheVariants.{Idle, Seen, Announced, Confirmed}
+use Rattle.eqc_core.specs.declared.phase.Phase.TheVariants.{Missed}
 use Rattle.eqc_core.specs.View.{View, Hand, Read, spent, unused, view_at}
 use Rattle.eqc_core.specs.Words.{Words, announced_words, word_at, times, stripe_of, result_of}
 use Rattle.eqc_core.specs.Tables.{Entries, Homes, IsTable, tabled, has_stripe, home_there}
@@ -30,20 +34,25 @@ pub record IsSized (z : Sizes) (w : Words) (hs : Homes) (vs : List View) : Type 
   pub homes : length hs ≡ 16
   pub views : length vs ≤ z.workers
 
--- each count word is the number of its slot's owners, of which a draft counts twice, and an owner that is no draft is tabled
+-- each count word is the number of its slot's owners, of which a draft counts twice, and an owner
+-- that is no draft is tabled
 pub record IsCounted (z : Sizes) (w : Words) (hs : Homes) (vs : List View) : Type 0 where
-  pub counts : (x : ℕ) → 2 ≤ x → x < z.names → get_or w.counts x 0 ≡ 2 * drafts vs x + owners w hs vs x
+  pub counts : (x : ℕ) → 2 ≤ x → x < z.names → get_or w.counts x 0 ≡ 2 * drafts vs x
+      + owners w hs vs x
   pub owners_tabled : (x : ℕ) → 2 ≤ x → 0 < owners w hs vs x → 0 < tabled hs vs x
 
--- a slot is tabled once; a word stands once, in its own stripe, and is its slot's node word, in order over the children
+-- a slot is tabled once; a word stands once, in its own stripe, and is its slot's node word, in
+-- order over the children
 pub record IsTabled (z : Sizes) (w : Words) (hs : Homes) (vs : List View) : Type 0 where
   -- a draft is not tabled, and no two views have one draft: else a written node would stand twice
   pub once : (x : ℕ) → tabled hs vs x + drafts vs x ≤ 1
   pub named : (x : ℕ) → 0 < tabled hs vs x → (2 ≤ x) × (x < z.names)
   pub drafts_named : (x : ℕ) → 0 < drafts vs x → (2 ≤ x) × (x < z.names)
-  pub entries : (s : ℕ) (t : Entries) → IsTable hs vs s t → (i : ℕ) (e : ℕ × ℕ) → get_elem? t i ≡ some e → (get_or w.nodes e.1 0 ≡ e.0) × (stripe_of e.0 ≡ s)
+  pub entries : (s : ℕ) (t : Entries) → IsTable hs vs s t → (i : ℕ) (e : ℕ × ℕ)
+      → get_elem? t i ≡ some e → (get_or w.nodes e.1 0 ≡ e.0) × (stripe_of e.0 ≡ s)
   pub shaped : (x : ℕ) → 0 < tabled hs vs x → IsShaped z.variables w.nodes (get_or w.nodes x 0)
-  pub unique : (x y : ℕ) → 0 < tabled hs vs x → 0 < tabled hs vs y → get_or w.nodes x 0 ≡ get_or w.nodes y 0 → x ≡ y
+  pub unique : (x y : ℕ) → 0 < tabled hs vs x → 0 < tabled hs vs y → get_or w.nodes x 0
+      ≡ get_or w.nodes y 0 → x ≡ y
   -- a stripe's table is at home or in one hand, and its lock is 1 exactly where it is in a hand
   pub stripes : (s : ℕ) → s < 16 → home_there hs s + sum_by (λ v. has_stripe s v.hand) vs ≡ 1
   pub locks : (s : ℕ) → s < 16 → get_or w.locks s 0 + home_there hs s ≡ 1
@@ -72,9 +81,11 @@ pub record Fits (z : Sizes) (w : Words) (vs : List View) (id : ℕ) (v : View) :
   pub number : v.number ≡ id
   pub phases : length v.phases ≡ z.announcements
   -- each announcement word has the name that its phase announces
-  pub announced : (k : ℕ) (p : Phase) → get_elem? v.phases k ≡ some p → get_or w.announced (word_at z id k) 0 ≡ announces p
+  pub announced : (k : ℕ) (p : Phase) → get_elem? v.phases k ≡ some p
+      → get_or w.announced (word_at z id k) 0 ≡ announces p
   pub named : (k : ℕ) (p : Phase) → get_elem? v.phases k ≡ some p → IsNamed z p
-  pub support : (k x : ℕ) → get_elem? v.phases k ≡ some (Confirmed x) → Supported w.cells vs (word_at z id k) x
+  pub support : (k x : ℕ) → get_elem? v.phases k ≡ some (Confirmed x)
+      → Supported w.cells vs (word_at z id k) x
   pub few : length v.retired ≤ 2 * announced_words z
   pub room : length v.held ≤ 2 ^ 40
   -- constants are not counted, so they are neither held nor retired
@@ -105,15 +116,21 @@ is_taken n v = cond (eqb v.number 0) 0 (times n v.out)
 pub record AreSeated (z : Sizes) (w : Words) (vs : List View) : Type 0 where
   pub first : (v : View) × (get_elem? vs 0 ≡ some v) × (v.active ≡ true) × (v.given ≡ length vs)
   -- a view that is not active owns nothing, and announces nothing
-  pub inactive : (id : ℕ) (v : View) → get_elem? vs id ≡ some v → v.active ≡ false → (v ≡ unused) ⊎ (v ≡ spent)
-  pub silent : (id : ℕ) (v : View) → get_elem? vs id ≡ some v → v.active ≡ false → (k : ℕ) → k < z.announcements → get_or w.announced (word_at z id k) 0 ≡ 0
-  pub beyond : (id k : ℕ) → length vs ≤ id → k < z.announcements → get_or w.announced (word_at z id k) 0 ≡ 0
+  pub inactive : (id : ℕ) (v : View) → get_elem? vs id ≡ some v → v.active ≡ false → (v ≡ unused)
+      ⊎ (v ≡ spent)
+  pub silent : (id : ℕ) (v : View) → get_elem? vs id ≡ some v → v.active ≡ false → (k : ℕ)
+      → k < z.announcements → get_or w.announced (word_at z id k) 0 ≡ 0
+  pub beyond : (id k : ℕ) → length vs ≤ id → k < z.announcements
+      → get_or w.announced (word_at z id k) 0 ≡ 0
   -- a number that is out is active, or was taken in by one other worker
-  pub out : (n : ℕ) → 0 < n → times n (numbers_out vs) ≡ sum_by (is_active n) vs + sum_by (is_taken n) vs
+  pub out : (n : ℕ) → 0 < n → times n (numbers_out vs) ≡ sum_by (is_active n) vs
+      + sum_by (is_taken n) vs
   pub out_once : (n : ℕ) → times n (numbers_out vs) ≤ 1
-  pub out_given : (n : ℕ) → 0 < times n (numbers_out vs) → (n < length vs) × (get_elem? vs n ≡ some unused → ⊥)
+  pub out_given : (n : ℕ) → 0 < times n (numbers_out vs) → (n < length vs)
+      × (get_elem? vs n ≡ some unused → ⊥)
 
--- a lawful state: counts are owners, owners are tabled, cells are right, and what is confirmed has support
+-- a lawful state: counts are owners, owners are tabled, cells are right, and what is confirmed has
+-- support
 pub record Lawful (z : Sizes) (w : Words) (hs : Homes) (vs : List View) : Type 0 where
   pub sized : IsSized z w hs vs
   pub counted : IsCounted z w hs vs

@@ -38,7 +38,8 @@ MayUnlock v h t = IsReady v × (v.hand ≡ Some h) × SameEntries t h.entries
 
 -- the event says which stripe goes home, and puts its table there as it is
 abbrev pub MayPutHome : View → ℕ → Type 0
-MayPutHome v i = MayUnlock v (hand_of v.hand) (hand_of v.hand).entries × ((hand_of v.hand).stripe ≡ i)
+MayPutHome v i = MayUnlock v (hand_of v.hand) (hand_of v.hand).entries
+    × ((hand_of v.hand).stripe ≡ i)
 
 -- the table is put home, and the lock is cleared
 abbrev pub unlocked_words : Words → Hand → Words

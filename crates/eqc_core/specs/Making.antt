@@ -1,11 +1,14 @@
--- A node's life: a free slot is claimed, its word is written and stands in its stripe's table, its children are read, and a node that only the table owns is taken back.
-use Rattle.std.specs.Prelude.{◌≡◌, ℕ, ◌<◌, ◌≤◌, List, [], ◌∷◌, ◌++◌, get_or, if◌then◌else◌, eqb, Some, None, Bool}
+-- A node's life: a free slot is claimed, its word is written and stands in its stripe's table, its
+-- children are read, and a node that only the table owns is taken back.
+use Rattle.std.specs.Prelude.{◌≡◌, ℕ, ◌<◌, ◌≤◌, List, [], ◌∷◌, ◌++◌, get_or, if◌then◌else◌, eqb}
+use Rattle.std.specs.Prelude.{Some, None, Bool}
 use Rattle.eqc_tree.specs.Word.{node_word}
 use Rattle.eqc_core.specs.View.{View, Hand}
 use Rattle.eqc_core.specs.Words.{Words, times, children, stripe_of, slots_of}
 use Rattle.eqc_core.specs.Tables.{Entries, table_has, table_word}
 use Rattle.eqc_core.specs.Trees.{IsShaped}
-use Rattle.eqc_core.specs.Moves.{IsReady, AreHeld, with_count, with_node, with_held, without_each, note}
+use Rattle.eqc_core.specs.Moves.{IsReady, AreHeld, with_count, with_node, with_held, without_each}
+use Rattle.eqc_core.specs.Moves.{note}
 
 abbrev pub MayClaim : View → ℕ → Type 0
 MayClaim v x = IsReady v × (2 ≤ x) × (x < v.sizes.names) × (v.draft ≡ None)
@@ -47,8 +50,10 @@ pub record MayWrite (nodes : List ℕ) (v : View) (d : ℕ) (h : Hand) (word : �
   pub shaped : IsShaped v.sizes.variables nodes word
   pub held : AreHeld (children word) v.held
 
--- the event that writes a node has its variable and its children, which are there: the word of a child of 2 ^ 20 would have a greater variable, and no such child
-pub record MayWriteNode (nodes : List ℕ) (v : View) (d : ℕ) (h : Hand) (variable low high : ℕ) : Type 0 where
+-- the event that writes a node has its variable and its children, which are there: the word of a
+-- child of 2 ^ 20 would have a greater variable, and no such child
+pub record MayWriteNode (nodes : List ℕ) (v : View) (d : ℕ) (h : Hand) (variable low high : ℕ) :
+    Type 0 where
   pub low_there : low < v.sizes.names
   pub high_there : high < v.sizes.names
   pub word : MayWrite nodes v d h (node_word variable low high)
@@ -59,7 +64,10 @@ written_words w d word = with_node w d word
 -- the table has the word, the draft is held once, and the children are the node's
 abbrev pub wrote : View → ℕ → Hand → ℕ → View
 wrote v d h word =
-    record (with_held v (without_each (slots_of (children word)) v.held ++ d ∷ [])) { draft = None; hand = Some (record h { entries = h.entries ++ (word, d) ∷ [] }) }
+    record (with_held v (without_each (slots_of (children word)) v.held ++ d ∷ [])) {
+      draft = None;
+      hand = Some (record h { entries = h.entries ++ (word, d) ∷ [] });
+    }
 
 abbrev pub MayRead : View → ℕ → Type 0
 MayRead v x = IsReady v × (0 < times x v.held)
@@ -73,10 +81,14 @@ without_slot x [] = []
 without_slot x (e ∷ es) = if eqb e.1 x then es else e ∷ without_slot x es
 
 abbrev pub MayReclaim : Words → View → Hand → ℕ → Type 0
-MayReclaim w v h x = IsReady v × (v.hand ≡ Some h) × (0 < table_has x h.entries) × (get_or w.counts x 0 ≡ 1)
+MayReclaim w v h x = IsReady v × (v.hand ≡ Some h) × (0 < table_has x h.entries)
+    × (get_or w.counts x 0 ≡ 1)
 
 abbrev pub reclaimed_words : Words → ℕ → Words
 reclaimed_words w x = with_count w x 0
 
 abbrev pub reclaimed : View → Hand → ℕ → ℕ → View
-reclaimed v h x word = record (with_held v (v.held ++ slots_of (children word))) { hand = Some (record h { entries = without_slot x h.entries }) }
+reclaimed v h x word = record (with_held v (v.held ++ slots_of (children word))) {
+  hand =
+      Some (record h { entries = without_slot x h.entries });
+}

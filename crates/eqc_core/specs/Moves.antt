@@ -1,7 +1,9 @@
 -- What the steps have in common: one word is set, and the view of the worker that steps changes.
-use Rattle.std.specs.Prelude.{◌≡◌, ℕ, ◌≤◌, List, [], ◌∷◌, ◌++◌, set, if◌then◌else◌, eqb, ltb, Option, Some, None}
+use Rattle.std.specs.Prelude.{◌≡◌, ℕ, ◌≤◌, List, [], ◌∷◌, ◌++◌, set, if◌then◌else◌, eqb, ltb}
+use Rattle.std.specs.Prelude.{Option, Some, None}
 use Rattle.eqc_core.specs.declared.phase.Phase.{Phase}
-use Rattle.eqc_core.specs.declared.phase.Phase.TheVariants.{Idle, Seen, Announced, Confirmed, Missed}
+use Rattle.eqc_core.specs.declared.phase.Phase.TheVariants.{Idle, Seen, Announced, Confirmed}
+use Rattle.eqc_core.specs.declared.phase.Phase.TheVariants.{Missed}
 use Rattle.eqc_core.specs.View.{View, Read}
 use Rattle.eqc_core.specs.Words.{Words, times}
 

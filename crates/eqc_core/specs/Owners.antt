@@ -1,4 +1,5 @@
--- The owners of a slot, counted: names held and retired, drafts, the names in cells and boxes, the children of tabled nodes, and the tables.
+-- The owners of a slot, counted: names held and retired, drafts, the names in cells and boxes, the
+-- children of tabled nodes, and the tables.
 -- The words of the counts say how many there are; no list of them stands anywhere.
 use Rattle.std.specs.Prelude.{ℕ, ◌+◌, List, sum_by, eqb, cond, Option, Some, None}
 use Rattle.eqc_core.specs.View.{View}
@@ -15,7 +16,8 @@ in_words x words = sum_by (λ word. times x (cell_names word)) words
 
 -- the owners of the slot that are no drafts
 abbrev pub owners : Words → Homes → List View → ℕ → ℕ
-owners w hs vs x = sum_by (owned x) vs + (in_words x w.cells + (in_words x w.boxes + sum_by (at_home (table_names x)) hs))
+owners w hs vs x = sum_by (owned x) vs
+    + (in_words x w.cells + (in_words x w.boxes + sum_by (at_home (table_names x)) hs))
 
 abbrev pub is_draft : ℕ → Option ℕ → ℕ
 is_draft x None = 0

@@ -1,21 +1,29 @@
 -- When an event is allowed, what it changes, and the runs of allowed events.
-use Rattle.std.specs.Prelude.{◌≡◌, ℕ, zero, suc, ◌+◌, ◌-◌, ◌^◌, ◌≤◌, List, [], ◌∷◌, length, set, get_or, true, false}
+use Rattle.std.specs.Prelude.{◌≡◌, ℕ, zero, suc, ◌+◌, ◌-◌, ◌^◌, ◌≤◌, List, [], ◌∷◌, length, set}
+use Rattle.std.specs.Prelude.{get_or, true, false}
 use mathlib.Core.Option.{none}
 use Rattle.eqc_tree.specs.Word.{node_word}
 use Rattle.eqc_core.specs.declared.event.Event.{Event}
 use Rattle.eqc_core.specs.declared.event.Step.{Step}
-use Rattle.eqc_core.specs.declared.event.Step.TheVariants.{Split, Join, Announce, Look, Recheck, Up, Down, SwapCell, ScanOne, Lock, Unlock, Claim, Unclaim, WriteNode, ReadNode, Reclaim, SwapBox, LookBox}
+use Rattle.eqc_core.specs.declared.event.Step.TheVariants.{Split, Join, Announce, Look, Recheck, Up}
+use Rattle.eqc_core.specs.declared.event.Step.TheVariants.{Down, SwapCell, ScanOne, Lock, Unlock}
+use Rattle.eqc_core.specs.declared.event.Step.TheVariants.{Claim, Unclaim, WriteNode, ReadNode}
+use Rattle.eqc_core.specs.declared.event.Step.TheVariants.{Reclaim, SwapBox, LookBox}
 use Rattle.eqc_core.specs.View.{View, view_at, phase_at, draft_of, hand_of}
 use Rattle.eqc_core.specs.Words.{Words, word_at}
 use Rattle.eqc_core.specs.Tables.{Homes, entries_of}
 use Rattle.eqc_core.specs.State.{State}
 use Rattle.eqc_core.specs.Moves.{with_announced, with_count, with_cell}
-use Rattle.eqc_core.specs.Announcing.{MayLook, looked, MayAnnounce, announced, announced_cell, MayRecheck, rechecked}
+use Rattle.eqc_core.specs.Announcing.{MayLook, looked, MayAnnounce, announced, announced_cell}
+use Rattle.eqc_core.specs.Announcing.{MayRecheck, rechecked}
 use Rattle.eqc_core.specs.Counting.{MayUp, upped, MayDown, downed}
 use Rattle.eqc_core.specs.Caching.{MaySwapCell, swapped}
 use Rattle.eqc_core.specs.Scanning.{MayScan, scanned}
-use Rattle.eqc_core.specs.Locking.{MayTryLock, locked_words, taken_out, locked, MayPutHome, unlocked_words, put_home, unlocked}
-use Rattle.eqc_core.specs.Making.{MayTryClaim, claimed_words, claimed, found_taken, MayUnclaim, unclaimed_words, unclaimed, MayWriteNode, written_words, wrote, MayRead, read_node, MayReclaim, reclaimed_words, reclaimed}
+use Rattle.eqc_core.specs.Locking.{MayTryLock, locked_words, taken_out, locked, MayPutHome}
+use Rattle.eqc_core.specs.Locking.{unlocked_words, put_home, unlocked}
+use Rattle.eqc_core.specs.Making.{MayTryClaim, claimed_words, claimed, found_taken, MayUnclaim}
+use Rattle.eqc_core.specs.Making.{unclaimed_words, unclaimed, MayWriteNode, written_words, wrote}
+use Rattle.eqc_core.specs.Making.{MayRead, read_node, MayReclaim, reclaimed_words, reclaimed}
 use Rattle.eqc_core.specs.Seating.{MaySplit, splitter, split, MayJoin, joined, join}
 use Rattle.eqc_core.specs.Sharing.{MaySwapBox, MayLookBox, boxed_words, boxed}
 
@@ -34,7 +42,8 @@ May s v (Lock i won) = MayTryLock s.words v i won
 May s v (Unlock i) = MayPutHome v i
 May s v (Claim x won) = MayTryClaim s.words v x won
 May s v Unclaim = MayUnclaim v (draft_of v.draft)
-May s v (WriteNode variable low high) = MayWriteNode s.words.nodes v (draft_of v.draft) (hand_of v.hand) variable low high
+May s v (WriteNode variable low high) = MayWriteNode s.words.nodes v (draft_of v.draft)
+    (hand_of v.hand) variable low high
 May s v (ReadNode x) = MayRead v x
 May s v (Reclaim x) = MayReclaim s.words v (hand_of v.hand) x
 May s v (SwapBox b word) = MaySwapBox s.words.nodes v b word
@@ -57,7 +66,8 @@ view_after s v (Unlock i) = unlocked v
 view_after s v (Claim x true) = claimed v x
 view_after s v (Claim x false) = found_taken v x
 view_after s v Unclaim = unclaimed v
-view_after s v (WriteNode variable low high) = wrote v (draft_of v.draft) (hand_of v.hand) (node_word variable low high)
+view_after s v (WriteNode variable low high) = wrote v (draft_of v.draft) (hand_of v.hand)
+    (node_word variable low high)
 view_after s v (ReadNode x) = read_node v x (get_or s.words.nodes x 0)
 view_after s v (Reclaim x) = reclaimed v (hand_of v.hand) x (get_or s.words.nodes x 0)
 view_after s v (SwapBox b word) = boxed v (get_or s.words.boxes b 0) word
@@ -101,7 +111,8 @@ words_after s id v (Unlock i) = unlocked_words s.words (hand_of v.hand)
 words_after s id v (Claim x true) = claimed_words s.words x
 words_after s id v (Claim x false) = s.words
 words_after s id v Unclaim = unclaimed_words s.words (draft_of v.draft)
-words_after s id v (WriteNode variable low high) = written_words s.words (draft_of v.draft) (node_word variable low high)
+words_after s id v (WriteNode variable low high) = written_words s.words (draft_of v.draft)
+    (node_word variable low high)
 words_after s id v (ReadNode x) = s.words
 words_after s id v (Reclaim x) = reclaimed_words s.words x
 words_after s id v (SwapBox b word) = boxed_words s.words b word
@@ -144,13 +155,15 @@ views_after s id v (Lock i won) = set s.views id (view_after s v (Lock i won))
 views_after s id v (Unlock i) = set s.views id (view_after s v (Unlock i))
 views_after s id v (Claim x won) = set s.views id (view_after s v (Claim x won))
 views_after s id v Unclaim = set s.views id (view_after s v Unclaim)
-views_after s id v (WriteNode variable low high) = set s.views id (view_after s v (WriteNode variable low high))
+views_after s id v (WriteNode variable low high) =
+    set s.views id (view_after s v (WriteNode variable low high))
 views_after s id v (ReadNode x) = set s.views id (view_after s v (ReadNode x))
 views_after s id v (Reclaim x) = set s.views id (view_after s v (Reclaim x))
 views_after s id v (SwapBox b word) = set s.views id (view_after s v (SwapBox b word))
 views_after s id v (LookBox b) = set s.views id (view_after s v (LookBox b))
 
--- the worker is active, may take the step, and holds 2 ^ 40 names at most after it, so that no count wraps
+-- the worker is active, may take the step, and holds 2 ^ 40 names at most after it, so that no
+-- count wraps
 pub record IsAllowed (s : State) (e : Event) : Type 0 where
   pub active : (view_at s.views e.worker).active ≡ true
   pub may : May s (view_at s.views e.worker) e.step
@@ -158,7 +171,12 @@ pub record IsAllowed (s : State) (e : Event) : Type 0 where
 
 abbrev pub after : State → Event → State
 after s e =
-    let v = view_at s.views e.worker in record s { words = words_after s e.worker v e.step; homes = homes_after s v e.step; views = views_after s e.worker v e.step }
+    let v = view_at s.views e.worker in record s {
+      words = words_after s e.worker v e.step;
+      homes =
+          homes_after s v e.step;
+      views = views_after s e.worker v e.step;
+    }
 
 -- the events lead from s to t, each allowed when it is taken
 abbrev pub Runs : State → List Event → State → Type 0

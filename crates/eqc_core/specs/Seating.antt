@@ -1,5 +1,6 @@
 -- A worker is split off, and joined again: what it held and retired is then the other's.
-use Rattle.std.specs.Prelude.{◌≡◌, ◌≢◌, ℕ, ◌+◌, ◌*◌, ◌<◌, ◌≤◌, List, [], ◌∷◌, ◌++◌, length, set, if◌then◌else◌, eqb, max, suc, None, true}
+use Rattle.std.specs.Prelude.{◌≡◌, ◌≢◌, ℕ, ◌+◌, ◌*◌, ◌<◌, ◌≤◌, List, [], ◌∷◌, ◌++◌, length, set}
+use Rattle.std.specs.Prelude.{if◌then◌else◌, eqb, max, suc, None, true}
 use mathlib.Core.Option.{some}
 use lib.ListN.{get_elem?}
 use Rattle.eqc_core.specs.declared.phase.Phase.{Phase}
@@ -26,14 +27,20 @@ pub record IsAtRest (v : View) : Type 0 where
 
 -- another active worker, which is not worker 0, is joined
 abbrev pub MayJoin : View → ℕ → View → Type 0
-MayJoin v from o = IsReady v × (from ≢ v.number) × (0 < from) × (o.active ≡ true) × IsAtRest o × (length v.retired + length o.retired ≤ 2 * announced_words v.sizes)
+MayJoin v from o = IsReady v × (from ≢ v.number) × (0 < from) × (o.active ≡ true) × IsAtRest o
+    × (length v.retired + length o.retired ≤ 2 * announced_words v.sizes)
 
 -- the numbers that came back: at worker 0 they are out no more, at another worker they are taken in
 abbrev pub out_after : View → ℕ → View → List ℕ
-out_after v from o = if eqb v.number 0 then without_each (from ∷ o.out) v.out else v.out ++ from ∷ o.out
+out_after v from o = if eqb v.number 0 then without_each (from ∷ o.out) v.out else v.out ++ from
+    ∷ o.out
 
 abbrev pub joined : View → ℕ → View → View
-joined v from o = record (with_held v (v.held ++ o.held)) { retired = v.retired ++ o.retired; out = out_after v from o }
+joined v from o = record (with_held v (v.held ++ o.held)) {
+  retired = v.retired ++ o.retired;
+  out =
+      out_after v from o;
+}
 
 abbrev pub join : List View → ℕ → View → ℕ → List View
 join vs id v from = set (set vs id (joined v from (view_at vs from))) from spent

@@ -1,5 +1,6 @@
 -- A state of the machine, and the states in which runs begin.
-use Rattle.std.specs.Prelude.{ℕ, zero, suc, ◌+◌, ◌-◌, ◌*◌, ◌^◌, ◌<◌, ◌≤◌, List, [], ◌∷◌, ◌++◌, if◌then◌else◌, eqb}
+use Rattle.std.specs.Prelude.{ℕ, zero, suc, ◌+◌, ◌-◌, ◌*◌, ◌^◌, ◌<◌, ◌≤◌, List, [], ◌∷◌, ◌++◌}
+use Rattle.std.specs.Prelude.{if◌then◌else◌, eqb}
 use mathlib.Core.Option.{some}
 use Rattle.eqc_tree.specs.Word.{node_word}
 use Rattle.eqc_core.specs.declared.sizes.Sizes.{Sizes}
@@ -46,10 +47,12 @@ abbrev pub slots_from : ℕ → ℕ → List ℕ
 slots_from x zero = []
 slots_from x (suc n) = x ∷ slots_from (suc x) n
 
--- those of n literals, from i on, that stand in the stripe s: the literal of variable i has the slot 2 + i
+-- those of n literals, from i on, that stand in the stripe s: the literal of variable i has the
+-- slot 2 + i
 abbrev pub stripe_entries : ℕ → ℕ → ℕ → Entries
 stripe_entries s i zero = []
-stripe_entries s i (suc n) = if eqb (stripe_of (literal i)) s then (literal i, 2 + i) ∷ stripe_entries s (suc i) n else stripe_entries s (suc i) n
+stripe_entries s i (suc n) = if eqb (stripe_of (literal i)) s then (literal i, 2 + i)
+    ∷ stripe_entries s (suc i) n else stripe_entries s (suc i) n
 
 -- the tables of k stripes, from s on
 abbrev pub homes_from : ℕ → ℕ → ℕ → Homes
@@ -60,7 +63,8 @@ homes_from s (suc k) n = some (stripe_entries s 0 n) ∷ homes_from (suc s) k n
 unfoldable pub literal_homes : ℕ → Homes
 literal_homes n = homes_from 0 16 n
 
--- the literals of the first n variables stand in their tables, each held once by worker 0, which is alone and at rest
+-- the literals of the first n variables stand in their tables, each held once by worker 0, which is
+-- alone and at rest
 abbrev pub opening : Sizes → ℕ → State
 opening z n = record {
   sizes = z;
@@ -80,6 +84,14 @@ opening z n = record {
 abbrev pub empty : Sizes → State
 empty z = opening z 0
 
--- as many slots as variables, each with the literal of its variable; each worker has four announcement words
+-- as many slots as variables, each with the literal of its variable; each worker has four
+-- announcement words
 abbrev pub stocked : ℕ → ℕ → ℕ → State
-stocked workers nodes cells = opening (record { workers = workers; announcements = 4; names = nodes + 2; cells = cells; variables = nodes }) nodes
+stocked workers nodes cells = opening (record {
+  workers = workers;
+  announcements = 4;
+  names =
+      nodes + 2;
+  cells = cells;
+  variables = nodes;
+}) nodes

@@ -1,5 +1,7 @@
--- The unique tables: one for each stripe of the node words, at home or in the hand of the worker that has its lock.
-use Rattle.std.specs.Prelude.{◌≡◌, ℕ, ◌+◌, ◌<◌, ◌⊎◌, List, [], ◌∷◌, sum_by, eqb, cond, Option, Some, None}
+-- The unique tables: one for each stripe of the node words, at home or in the hand of the worker
+-- that has its lock.
+use Rattle.std.specs.Prelude.{◌≡◌, ℕ, ◌+◌, ◌<◌, ◌⊎◌, List, [], ◌∷◌, sum_by, eqb, cond, Option, Some}
+use Rattle.std.specs.Prelude.{None}
 use mathlib.Core.Option as May
 use mathlib.Core.Option.{some, none}
 use lib.ListN.{get_elem?}
@@ -31,7 +33,8 @@ in_hand f (Some h) = f h.entries
 abbrev pub IsTable : Homes → List View → ℕ → Entries → Type 0
 IsTable hs vs s t =
     (get_elem? hs s ≡ some (some t))
-    ⊎ ((id : ℕ) × (v : View) × (h : Hand) × (get_elem? vs id ≡ some v) × (v.hand ≡ Some h) × (h.stripe ≡ s) × (h.entries ≡ t))
+    ⊎ ((id : ℕ) × (v : View) × (h : Hand) × (get_elem? vs id ≡ some v) × (v.hand ≡ Some h)
+    × (h.stripe ≡ s) × (h.entries ≡ t))
 
 -- how often the slot is an entry of the table
 unfoldable pub table_has : ℕ → Entries → ℕ

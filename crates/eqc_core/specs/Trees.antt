@@ -1,15 +1,18 @@
--- The decision tree that a name stands for, and the words that are right (Bryant 1986: a node is a variable and two children).
+-- The decision tree that a name stands for, and the words that are right (Bryant 1986: a node is a
+-- variable and two children).
 use Rattle.std.specs.Prelude.{◌≡◌, ℕ, ◌^◌, ◌<◌, ◌≤◌, ◌⊎◌, List, get_or, Bool, ltb, if◌then◌else◌}
 use Rattle.eqc_tree.specs.Tree.{Tree, False, True, Node, value}
 use Rattle.eqc_tree.specs.Operation.{operate, tag_of}
 use Rattle.eqc_tree.specs.declared.operation.Op.{Op}
-use Rattle.eqc_core.specs.Words.{variable_of, low_of, high_of, operation_of, first_of, second_of, result_of}
+use Rattle.eqc_core.specs.Words.{variable_of, low_of, high_of, operation_of, first_of, second_of}
+use Rattle.eqc_core.specs.Words.{result_of}
 
 -- the tree of a name, as the node words have it
 abbrev pub IsTree : List ℕ → Tree → ℕ → Type 0
 IsTree nodes False x = x ≡ 0
 IsTree nodes True x = x ≡ 1
-IsTree nodes (Node v low high) x = (2 ≤ x) × (variable_of (get_or nodes x 0) ≡ v) × IsTree nodes low (low_of (get_or nodes x 0)) × IsTree nodes high (high_of (get_or nodes x 0))
+IsTree nodes (Node v low high) x = (2 ≤ x) × (variable_of (get_or nodes x 0) ≡ v)
+    × IsTree nodes low (low_of (get_or nodes x 0)) × IsTree nodes high (high_of (get_or nodes x 0))
 
 -- the variable of a name: a constant's is above all
 abbrev pub variable_at : List ℕ → ℕ → ℕ

@@ -1,5 +1,6 @@
 -- What each worker knows. The words of the others tell nothing of it.
-use Rattle.std.specs.Prelude.{ℕ, zero, suc, List, [], ◌∷◌, Bool, true, false, Option, Some, None, get_or}
+use Rattle.std.specs.Prelude.{ℕ, zero, suc, List, [], ◌∷◌, Bool, true, false, Option, Some, None}
+use Rattle.std.specs.Prelude.{get_or}
 use Rattle.eqc_core.specs.declared.sizes.Sizes.{Sizes}
 use Rattle.eqc_core.specs.declared.phase.Phase.{Phase}
 use Rattle.eqc_core.specs.declared.phase.Phase.TheVariants.{Idle}
@@ -78,7 +79,13 @@ spent = record unused { over = true }
 
 -- a worker that has just been split off: it holds nothing
 abbrev pub fresh : Sizes → ℕ → View
-fresh z number = record unused { active = true; sizes = z; number = number; phases = idle z.announcements }
+fresh z number = record unused {
+  active = true;
+  sizes = z;
+  number = number;
+  phases =
+      idle z.announcements;
+}
 
 -- the view of a number: one beyond the list was never given
 abbrev pub view_at : List View → ℕ → View
@@ -95,7 +102,8 @@ grown (v ∷ vs) (suc n) = v ∷ grown vs n
 abbrev pub phase_at : View → ℕ → Phase
 phase_at v k = get_or v.phases k Idle
 
--- the draft, and the stripe in hand, of a view that has one: a step that takes one is allowed only then
+-- the draft, and the stripe in hand, of a view that has one: a step that takes one is allowed only
+-- then
 abbrev pub draft_of : Option ℕ → ℕ
 draft_of None = 0
 draft_of (Some d) = d

@@ -1,5 +1,6 @@
 -- The shared words by kind, and the fields of a word.
-use Rattle.std.specs.Prelude.{ℕ, ◌+◌, ◌*◌, ◌/◌, ◌%◌, ◌^◌, List, [], ◌∷◌, count_by, eqb, if◌then◌else◌, ltb}
+use Rattle.std.specs.Prelude.{ℕ, ◌+◌, ◌*◌, ◌/◌, ◌%◌, ◌^◌, List, [], ◌∷◌, count_by, eqb}
+use Rattle.std.specs.Prelude.{if◌then◌else◌, ltb}
 use Rattle.eqc_tree.specs.Word.{node_low, node_high, cell_tag, cell_first, cell_second, cell_result}
 use Rattle.eqc_core.specs.declared.sizes.Sizes.{Sizes}
 
@@ -20,7 +21,8 @@ announced_words z = z.workers * z.announcements
 unfoldable pub word_at : Sizes → ℕ → ℕ → ℕ
 word_at z m k = m * z.announcements + k
 
--- the fields of a node word; the variable with the bits above it, so that a word in order has none of them
+-- the fields of a node word; the variable with the bits above it, so that a word in order has none
+-- of them
 unfoldable pub variable_of : ℕ → ℕ
 variable_of word = word / 2 ^ 40
 

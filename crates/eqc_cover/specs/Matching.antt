@@ -1,5 +1,6 @@
 -- Rows of a cover under the value of their first column, and the columns of a cover as diagrams.
-use Rattle.std.specs.Prelude.{◌≡◌, ℕ, Bool, true, false, List, [], ◌∷◌, length, map, take, ◌||◌, ◌==◌, ◌≤◌, if◌then◌else◌, ◌+◌}
+use Rattle.std.specs.Prelude.{◌≡◌, ℕ, Bool, true, false, List, [], ◌∷◌, length, map, take, ◌||◌}
+use Rattle.std.specs.Prelude.{◌==◌, ◌≤◌, if◌then◌else◌, ◌+◌}
 use Rattle.std.specs.List.{list_any, AllByRecursion}
 use Rattle.std.specs.Borrow.{Bor}
 use Rattle.eqc_netlist.specs.Cover.{allows, row_matches}
@@ -31,7 +32,8 @@ constrains_first rows = list_any (λ r. list_any is_literal (take 1 r)) rows
 pub record RowsAlike (columns : ℕ) (row other : List ℕ) : Type 0 where
   pub alike : (vs : List Bool) → length vs ≤ columns → row_matches row vs ≡ row_matches other vs
 
--- under all values of so many columns some row of the one list matches exactly where some row of the other does
+-- under all values of so many columns some row of the one list matches exactly where some row of
+-- the other does
 pub record MatchAlike (columns : ℕ) (rows others : List (List ℕ)) : Type 0 where
   pub alike : (vs : List Bool) → length vs ≤ columns → some_match rows vs ≡ some_match others vs
 

@@ -1,5 +1,7 @@
--- A cover over its own columns as splits: tables of the last six columns, and choices by a column between two splits before them.
-use Rattle.std.specs.Prelude.{◌≡◌, ℕ, ◌+◌, ◌-◌, ◌<◌, ◌≤◌, Bool, false, List, [], ◌∷◌, ◌++◌, drop, length, map, slice_index_or, sum_by, if◌then◌else◌}
+-- A cover over its own columns as splits: tables of the last six columns, and choices by a column
+-- between two splits before them.
+use Rattle.std.specs.Prelude.{◌≡◌, ℕ, ◌+◌, ◌-◌, ◌<◌, ◌≤◌, Bool, false, List, [], ◌∷◌, ◌++◌, drop}
+use Rattle.std.specs.Prelude.{length, map, slice_index_or, sum_by, if◌then◌else◌}
 use Rattle.std.specs.Borrow.{Bor}
 use Rattle.eqc_netlist.specs.Cover.{cover_value}
 use Rattle.eqc_tree.specs.Holding.{Entry, Holding, copies, weight, says}
@@ -16,7 +18,8 @@ last_columns vs = drop (length vs - 6) vs
 
 -- what a choice says where splits before it say this
 abbrev pub choice_value : ChoiceOf → List Bool → List Bool → Bool
-choice_value c made vs = if slice_index_or vs c.column false then slice_index_or made c.high false else slice_index_or made c.low false
+choice_value c made vs = if slice_index_or vs c.column false then slice_index_or made c.high false
+    else slice_index_or made c.low false
 
 -- what a split says where those before it say this
 abbrev pub split_value : Split → List Bool → List Bool → Bool
@@ -45,9 +48,11 @@ pub record IsMadeAt (n : ℕ) (splits : List Split) (k : ℕ) (f : List Bool →
 -- the split at a place says what a choice between earlier ones does
 pub record IsChosenAt (old new : List Split) (k : ℕ) (c : ChoiceOf) : Type 0 where
   pub within : k < length new
-  pub value : (vs : List Bool) → value_of new k vs ≡ (if slice_index_or vs c.column false then value_of old c.high vs else value_of old c.low vs)
+  pub value : (vs : List Bool) → value_of new k vs
+      ≡ (if slice_index_or vs c.column false then value_of old c.high vs else value_of old c.low vs)
 
--- the rows of a cover, the number of its columns, and splits of which the one at a place has its value
+-- the rows of a cover, the number of its columns, and splits of which the one at a place has its
+-- value
 pub record CoverSplits : Type 0 where
   pub rows : List (List ℕ)
   pub columns : ℕ
@@ -56,7 +61,8 @@ pub record CoverSplits : Type 0 where
 
 -- the split at its place has the value of the cover of these rows over so many columns
 pub record IsExpansionOf (rows : List (List ℕ)) (columns : ℕ) (e : Expansion) : Type 0 where
-  pub value : (vs : List Bool) → length vs ≡ columns → value_of e.splits.items e.place vs ≡ cover_value rows vs
+  pub value : (vs : List Bool) → length vs ≡ columns → value_of e.splits.items e.place vs
+      ≡ cover_value rows vs
 
 -- how often an entry is held by references
 abbrev pub tally : {X : Type 0} → (X → Entry) → List X → Entry → ℕ
@@ -72,5 +78,6 @@ pub record Gathers {X : Type 0} (entry : X → Entry) (old new : Holding) (rs : 
   pub held : (e : Entry) → copies new e ≡ copies old e + tally entry rs e
 
 -- references say under an assignment what splits say of columns
-pub record SaySplits {X : Type 0} (entry : X → Entry) (rs : List X) (splits : List Split) (columns : List (Bor X)) (a : ℕ → Bool) : Type 0 where
+pub record SaySplits {X : Type 0} (entry : X → Entry) (rs : List X) (splits : List Split)
+    (columns : List (Bor X)) (a : ℕ → Bool) : Type 0 where
   pub values : map (λ r. says (entry r) a) rs ≡ values_after splits (said entry columns a) []

@@ -2,7 +2,8 @@
 use Rattle.std.specs.Prelude.{ℕ, ◌≤◌, Bool, not, ◌&&◌, List}
 use Rattle.eqc_tree.specs.Operation.{operate}
 use Rattle.eqc_cover.specs.declared.split.Gate.{Gate}
-use Rattle.eqc_cover.specs.declared.split.Gate.TheVariants.{Function, Column, Both, OnlyColumn, OnlyFunction}
+use Rattle.eqc_cover.specs.declared.split.Gate.TheVariants.{Function, Column, Both, OnlyColumn}
+use Rattle.eqc_cover.specs.declared.split.Gate.TheVariants.{OnlyFunction}
 use Rattle.eqc_cover.specs.declared.split.Part.{Part}
 use Rattle.eqc_cover.specs.declared.split.Parts.{Parts}
 use Rattle.eqc_cover.specs.Table.{table_value, DependsOnOpen}
@@ -25,4 +26,5 @@ parts_value s x vs = operate s.op (part_value s.front x vs) (part_value s.back x
 
 -- a table depends on no other columns than two tables do
 pub record StaysOpen (high low t : ℕ) : Type 0 where
-  pub depends : (n : ℕ) → n ≤ 6 → (opens : List Bool) → DependsOnOpen high n opens → DependsOnOpen low n opens → DependsOnOpen t n opens
+  pub depends : (n : ℕ) → n ≤ 6 → (opens : List Bool) → DependsOnOpen high n opens
+      → DependsOnOpen low n opens → DependsOnOpen t n opens

@@ -1,4 +1,5 @@
--- For the proofs alone: an order of numbered signals in which each stands after those that it depends on, and circles.
+-- For the proofs alone: an order of numbered signals in which each stands after those that it
+-- depends on, and circles.
 use Rattle.std.specs.Prelude.{◌≡◌, ℕ, ◌<◌, true, false, List, [], length, slice_index_or}
 use Rattle.eqc_blif.specs.Netlist.{ModelOf}
 use Rattle.eqc_flat.specs.DriverTable.{IsDriven}
@@ -13,15 +14,18 @@ pub record IsOrder (drivers : List DriverOf) (steps : List ℕ) : Type 0 where
   pub each : (s : ℕ) → s < length drivers → among steps s ≡ true
   pub count : length steps ≡ length drivers
   pub within : (k : ℕ) → k < length steps → slice_index_or steps k 0 < length drivers
-  pub once : (i j : ℕ) → i < length steps → j < length steps → slice_index_or steps i 0 ≡ slice_index_or steps j 0 → i ≡ j
+  pub once : (i j : ℕ) → i < length steps → j < length steps → slice_index_or steps i 0
+      ≡ slice_index_or steps j 0 → i ≡ j
 
 -- some signal leads to a circle
 abbrev pub IsCircular : List DriverOf → Type 0
-IsCircular drivers = (s : ℕ) × (s < length drivers) × ((steps : ℕ) → ends_within (signal_deps drivers) steps s ≡ false)
+IsCircular drivers = (s : ℕ) × (s < length drivers)
+    × ((steps : ℕ) → ends_within (signal_deps drivers) steps s ≡ false)
 
 -- a walk along dependencies that comes back
 abbrev pub IsTrail : List DriverOf → List ℕ → Type 0
-IsTrail drivers trail = (root : ℕ) × (root < length drivers) × WalksBack (signal_deps drivers) root trail
+IsTrail drivers trail = (root : ℕ) × (root < length drivers)
+    × WalksBack (signal_deps drivers) root trail
 
 -- no order has each signal behind those that it depends on
 abbrev pub HasNoOrder : List DriverOf → Type 0
@@ -29,4 +33,5 @@ HasNoOrder drivers = (steps : List ℕ) → IsOrder drivers steps → ⊥
 
 -- the same along the drivers of a hierarchy
 abbrev pub IsTrailBelow : List ModelOf → ℕ → List ℕ → Type 0
-IsTrailBelow library top trail = (drivers : List DriverOf) × IsDriven library top drivers × IsTrail drivers trail
+IsTrailBelow library top trail = (drivers : List DriverOf) × IsDriven library top drivers
+    × IsTrail drivers trail

@@ -12,4 +12,5 @@ pub record AreWithin (nodes : List Node) (literals : List ℕ) : Type 0 where
 -- in every graph of the columns these literals are all true exactly where the row matches
 pub record AreAskedFor (columns row literals : List ℕ) : Type 0 where
   pub within : (nodes : List Node) → AreWithin nodes columns → AreWithin nodes literals
-  pub value : (nodes : List Node) (a : ℕ → Bool) → list_all (literal_value nodes a) literals ≡ row_matches row (map (literal_value nodes a) columns)
+  pub value : (nodes : List Node) (a : ℕ → Bool) → list_all (literal_value nodes a) literals
+      ≡ row_matches row (map (literal_value nodes a) columns)

@@ -1,5 +1,7 @@
--- The values of nodes and literals under values of the variables, and graphs that go on from others.
-use Rattle.std.specs.Prelude.{◌≡◌, ℕ, ◌/◌, ◌%◌, ◌^◌, ◌<◌, ◌≤◌, ◌==◌, Bool, true, false, not, ◌&&◌, if◌then◌else◌, List, [], ◌∷◌, ◌++◌, length, ⊤, slice_index_or}
+-- The values of nodes and literals under values of the variables, and graphs that go on from
+-- others.
+use Rattle.std.specs.Prelude.{◌≡◌, ℕ, ◌/◌, ◌%◌, ◌^◌, ◌<◌, ◌≤◌, ◌==◌, Bool, true, false, not, ◌&&◌}
+use Rattle.std.specs.Prelude.{if◌then◌else◌, List, [], ◌∷◌, ◌++◌, length, ⊤, slice_index_or}
 use Rattle.eqc_graph.specs.declared.node.Node.{Node}
 use Rattle.eqc_graph.specs.declared.node.Node.TheVariants.{Constant, Input, And, Xor}
 
@@ -8,9 +10,11 @@ abbrev pub differ : Bool → Bool → Bool
 differ true y = not y
 differ false y = y
 
--- the value of a literal, where these are the nodes' values: 2 * n is the node n, and 2 * n + 1 its complement
+-- the value of a literal, where these are the nodes' values: 2 * n is the node n, and 2 * n + 1 its
+-- complement
 unfoldable pub value_among : List Bool → ℕ → Bool
-value_among values l = if l % 2 == 0 then slice_index_or values (l / 2) false else not (slice_index_or values (l / 2) false)
+value_among values l = if l % 2 == 0 then slice_index_or values (l / 2) false else not
+    (slice_index_or values (l / 2) false)
 
 -- the value of a node, where these are the values of literals
 abbrev pub node_value : (ℕ → Bool) → (ℕ → Bool) → Node → Bool
@@ -22,7 +26,8 @@ node_value a value (Xor x y) = differ (value x) (value y)
 -- the values of nodes in their order, each from those before it
 unfoldable pub values_from : (ℕ → Bool) → List Bool → List Node → List Bool
 values_from a values [] = values
-values_from a values (n ∷ nodes) = values_from a (values ++ node_value a (value_among values) n ∷ []) nodes
+values_from a values (n ∷ nodes) = values_from a (values ++ node_value a (value_among values) n
+    ∷ []) nodes
 
 -- the value of a literal of a graph
 unfoldable pub literal_value : List Node → (ℕ → Bool) → ℕ → Bool

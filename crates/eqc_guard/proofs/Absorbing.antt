@@ -1,5 +1,6 @@
 -- What a worker knows that took another in, after both scanned.
-use Rattle.std.proofs.Common.{◌≡◌, ℕ, ◌*◌, ◌<◌, ◌≤◌, [], ◌++◌, length, Option, length-append, sym, ap, subst, ◌∙◌, arith}
+use Rattle.std.proofs.Common.{◌≡◌, ℕ, ◌*◌, ◌<◌, ◌≤◌, [], ◌++◌, length, Option, length-append, sym}
+use Rattle.std.proofs.Common.{ap, subst, ◌∙◌, arith}
 use Rattle.eqc_core.specs.declared.phase.Phase.TheVariants.{Idle}
 use Rattle.eqc_core.specs.View.{View, Read, phase_at}
 use Rattle.eqc_core.specs.Words.{announced_words, times}
@@ -28,22 +29,39 @@ module _ (old other s1 o1 : Standing) (s : IsScanned old s1) (o : IsScanned othe
     names = λ x. omega (arith, times-append x s.held o.held, s.same x, o.same x);
     lengths = omega (arith, length-append s.held o.held, s.lengths, o.lengths);
     few = subst (λ (v : View). length v.retired ≤ 2 * announced_words v.sizes) core j.known.retired;
-    mine = λ x two h. j.mine x two (held_named s1.known.core x (was x h)) (held_named new.known.core x (is x (omega (arith, s.same x, times-append x s.held o.held)))) ∙ s.trees x two h;
-    theirs = λ x two h. j.theirs x two (held_named o1.known.core x (theirs x h)) (held_named new.known.core x (is x (omega (arith, o.same x, times-append x s.held o.held)))) ∙ o.trees x two h;
+    mine = λ x two h. j.mine x two (held_named s1.known.core x (was x h)) (held_named new.known.core
+        x (is x (omega (arith, s.same x, times-append x s.held o.held)))) ∙ s.trees x two h;
+    theirs = λ x two h. j.theirs x two (held_named o1.known.core x (theirs x h))
+        (held_named new.known.core x (is x (omega (arith, o.same x, times-append x s.held o.held))))
+        ∙ o.trees x two h;
     known = j.known;
   }
     where
       stays : forget (s.held ++ o.held) old.known.core.read ≡ old.known.core.read
-      stays = forget_none (s.held ++ o.held) old.known.core.read (λ r e. let h = known.read r e in omega (arith, s.same r.name, times-append r.name s.held o.held))
+      stays = forget_none (s.held ++ o.held) old.known.core.read (λ r e. let h = known.read r e in
+          omega (arith, s.same r.name, times-append r.name s.held o.held))
 
-      core : new.known.core ≡ record old.known.core
-          { held = s.held ++ o.held; position = 0; noted = []; retired = s.retired ++ o.retired; out = out_after old.known.core other.known.core.number other.known.core }
+      core : new.known.core ≡ record old.known.core {
+        held = s.held ++ o.held;
+        position = 0;
+        noted = [];
+        retired = s.retired ++ o.retired;
+        out = out_after old.known.core other.known.core.number other.known.core;
+      }
       core =
           j.core
           ∙ ((λ i. joined (s.core i) (o.core i).number (o.core i))
           ∙ ap (λ (r : Option Read).
-          record old.known.core
-          { held = s.held ++ o.held; read = r; position = 0; noted = []; retired = s.retired ++ o.retired; out = out_after old.known.core other.known.core.number other.known.core })
+          record old.known.core {
+            held = s.held ++ o.held;
+            read = r;
+            position = 0;
+            noted = [];
+            retired =
+                s.retired ++ o.retired;
+            out = out_after old.known.core other.known.core.number
+                other.known.core;
+          })
           stays)
 
       was : (x : ℕ) → 0 < times x old.known.core.held → 0 < times x s1.known.core.held

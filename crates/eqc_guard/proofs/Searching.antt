@@ -1,5 +1,6 @@
 -- A search for a free slot, try by try.
-use Rattle.std.proofs.Common.{◌≡◌, ◌≢◌, ℕ, ◌+◌, ◌<◌, ◌≤◌, List, [], ◌∷◌, ne_eqb, refl, sym, ap, subst, ◌∙◌, arith}
+use Rattle.std.proofs.Common.{◌≡◌, ◌≢◌, ℕ, ◌+◌, ◌<◌, ◌≤◌, List, [], ◌∷◌, ne_eqb, refl, sym, ap}
+use Rattle.std.proofs.Common.{subst, ◌∙◌, arith}
 use Rattle.std.proofs.lemmas.Bool.{lt-ltb, le-ltb}
 use native.Mathlib.Decide.{ℕ_discrete, dec_le}
 use Rattle.eqc_core.specs.View.{View}
@@ -15,14 +16,18 @@ use Rattle.eqc_guard.proofs.Learning.{names_is, keeps_on}
 -- a name that is noted stands in the list, and what stood there does
 note_new : (x : ℕ) (xs : List ℕ) → x ≢ 0 → Dec (1 ≤ times x xs) → 0 < times x (note x xs)
 note_new x xs some (yes h) = rw (ne_eqb x 0 some, lt-ltb 0 (times x xs) h) (omega arith)
-note_new x xs some (no n) = rw (ne_eqb x 0 some, le-ltb 0 (times x xs) (omega arith)) (omega (arith, times-append x xs (x ∷ []), times-same x x [] refl))
+note_new x xs some (no n) = rw (ne_eqb x 0 some, le-ltb 0 (times x xs) (omega arith))
+    (omega (arith, times-append x xs (x ∷ []), times-same x x [] refl))
 
-note_old : (y x : ℕ) (xs : List ℕ) → x ≢ 0 → Dec (1 ≤ times x xs) → 0 < times y xs → 0 < times y (note x xs)
+note_old : (y x : ℕ) (xs : List ℕ) → x ≢ 0 → Dec (1 ≤ times x xs) → 0 < times y xs
+    → 0 < times y (note x xs)
 note_old y x xs some (yes h) there = rw (ne_eqb x 0 some, lt-ltb 0 (times x xs) h) there
-note_old y x xs some (no n) there = rw (ne_eqb x 0 some, le-ltb 0 (times x xs) (omega arith)) (omega (arith, times-append y xs (x ∷ [])))
+note_old y x xs some (no n) there = rw (ne_eqb x 0 some, le-ltb 0 (times x xs) (omega arith))
+    (omega (arith, times-append y xs (x ∷ [])))
 
 -- the turn and the draft are not among the names
-turn_names : (x : ℕ) (turn : List ℕ) (v : View) → times x (names_of (record v { turn = turn })) ≡ times x (names_of v)
+turn_names : (x : ℕ) (turn : List ℕ) (v : View) → times x (names_of (record v { turn = turn }))
+    ≡ times x (names_of v)
 turn_names x turn v = omega (arith, names_is x v, names_is x (record v { turn = turn }))
 
 claim_names : (x y : ℕ) (v : View) → times x (names_of (claimed v y)) ≡ times x (names_of v)
@@ -43,19 +48,25 @@ none_seen first s known = record {
 
 module _ (first last : ℕ) (old mid : Standing) (m : HasSeen first last old mid) where
   -- what was named is
-  still_named : (x : ℕ) → 0 < times x (names_of old.known.core) → 0 < times x (names_of mid.known.core)
-  still_named x h = subst (λ (v : View). 0 < times x (names_of v)) (sym m.core) (omega (arith, turn_names x m.turn old.known.core))
+  still_named : (x : ℕ) → 0 < times x (names_of old.known.core)
+      → 0 < times x (names_of mid.known.core)
+  still_named x h = subst (λ (v : View). 0 < times x (names_of v)) (sym m.core)
+      (omega (arith, turn_names x m.turn old.known.core))
 
   -- the next slot was seen taken, too
-  pub one_seen : (next : Standing) → 2 ≤ last → Steps mid (found_taken mid.known.core last) next → HasSeen first (last + 1) old next
+  pub one_seen : (next : Standing) → 2 ≤ last → Steps mid (found_taken mid.known.core last) next
+      → HasSeen first (last + 1) old next
   one_seen next two s = record {
     forest = s.forest ∙ m.forest;
     turn = note last m.turn;
     core = s.known.core ∙ ap (λ (v : View). found_taken v last) m.core;
     seen = seen;
-    before = λ x h. note_old x last m.turn (λ e. omega arith) (dec_le 1 (times last m.turn)) (m.before x h);
+    before = λ x h. note_old x last m.turn (λ e. omega arith) (dec_le 1 (times last m.turn))
+        (m.before x h);
     trees = λ x k h.
-        s.known.agrees x k (still_named x h) (subst (λ (v : View). 0 < times x (names_of (found_taken v last))) (sym m.core) (omega (arith, turn_names x (note last m.turn) old.known.core)))
+        s.known.agrees x k (still_named x h) (subst (λ (v : View). 0
+        < times x (names_of (found_taken v last))) (sym m.core)
+        (omega (arith, turn_names x (note last m.turn) old.known.core)))
         ∙ m.trees x k h;
     copy = keeps_on old.known mid.known next.known m.copy s.known.copy;
     known = s.known.known;
@@ -65,17 +76,22 @@ module _ (first last : ℕ) (old mid : Standing) (m : HasSeen first last old mid
       seen x a b = go (ℕ_discrete x last)
         where
           go : Dec (x ≡ last) → 0 < times x (note last m.turn)
-          go (yes e) = subst (λ (y : ℕ). 0 < times y (note last m.turn)) (sym e) (note_new last m.turn (λ z. omega arith) (dec_le 1 (times last m.turn)))
-          go (no n) = note_old x last m.turn (λ z. omega arith) (dec_le 1 (times last m.turn)) (m.seen x a (omega arith))
+          go (yes e) = subst (λ (y : ℕ). 0 < times y (note last m.turn)) (sym e)
+              (note_new last m.turn (λ z. omega arith) (dec_le 1 (times last m.turn)))
+          go (no n) = note_old x last m.turn (λ z. omega arith) (dec_le 1 (times last m.turn))
+              (m.seen x a (omega arith))
 
   -- a slot was won
-  pub one_won : (slot : ℕ) (next : Standing) → 2 ≤ slot → slot < mid.known.core.sizes.names → Steps mid (claimed mid.known.core slot) next → IsDrafted slot old next
+  pub one_won : (slot : ℕ) (next : Standing) → 2 ≤ slot → slot < mid.known.core.sizes.names
+      → Steps mid (claimed mid.known.core slot) next → IsDrafted slot old next
   one_won slot next two there s = record {
     forest = s.forest ∙ m.forest;
     first = two;
     there = subst (λ (v : View). slot < v.sizes.names) m.core there;
     core = s.known.core ∙ ap (λ (v : View). claimed v slot) m.core;
-    trees = λ x k h. s.known.agrees x k (still_named x h) (subst (λ (v : View). 0 < times x (names_of (claimed v slot))) (sym m.core) (omega (arith, claim_names x slot old.known.core)))
+    trees = λ x k h. s.known.agrees x k (still_named x h) (subst (λ (v : View). 0
+        < times x (names_of (claimed v slot))) (sym m.core)
+        (omega (arith, claim_names x slot old.known.core)))
         ∙ m.trees x k h;
     copy = keeps_on old.known mid.known next.known m.copy s.known.copy;
     known = s.known.known;
@@ -94,7 +110,8 @@ module _ (first last : ℕ) (old mid : Standing) (m : HasSeen first last old mid
   }
 
   -- the search began again with lower slots, and came to where it had begun
-  pub then_seen : (lowest : ℕ) (new : Standing) → HasSeen lowest first mid new → HasSeen lowest last old new
+  pub then_seen : (lowest : ℕ) (new : Standing) → HasSeen lowest first mid new
+      → HasSeen lowest last old new
   then_seen lowest new n = record {
     forest = n.forest ∙ m.forest;
     turn = n.turn;
@@ -117,5 +134,6 @@ module _ (first last : ℕ) (old mid : Standing) (m : HasSeen first last old mid
   sizes_stay = ap (λ (v : View). v.sizes.names) m.core
 
 -- a whole turn
-pub all_seen : (old new : Standing) → HasSeen 2 old.known.core.sizes.names old new → HasSeenAll new.known.core
+pub all_seen : (old new : Standing) → HasSeen 2 old.known.core.sizes.names old new
+    → HasSeenAll new.known.core
 all_seen old new n = subst (λ (v : View). HasSeenAll v) (sym n.core) n.seen

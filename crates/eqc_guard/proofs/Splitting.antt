@@ -1,5 +1,6 @@
 -- What two workers know after a split, and that their fields fit.
-use Rattle.std.proofs.Common.{◌≡◌, ℕ, ◌+◌, ◌<◌, List, [], ◌∷◌, ◌++◌, length, max, suc, Option, None, refl, sym, ap, subst, ◌∙◌, arith, inl, inr, length-append}
+use Rattle.std.proofs.Common.{◌≡◌, ℕ, ◌+◌, ◌<◌, List, [], ◌∷◌, ◌++◌, length, max, suc, Option, None}
+use Rattle.std.proofs.Common.{refl, sym, ap, subst, ◌∙◌, arith, inl, inr, length-append}
 use mathlib.Core.Option.{some}
 use lib.ListN.{get_elem?}
 use Rattle.atomic_table.specs.Seated.{TableId}
@@ -31,7 +32,8 @@ split_left_known k known has = record {
   limit = known.limit;
   below = λ x two h. known.below x two (omega (arith, split_names x k.core k.core.given));
   canonical = λ x named. known.canonical x (named_before k.core k.core.given x named);
-  one = λ x y a b e. known.one x y (named_before k.core k.core.given x a) (named_before k.core k.core.given y b) e;
+  one = λ x y a b e. known.one x y (named_before k.core k.core.given x a)
+      (named_before k.core k.core.given y b) e;
   state = λ ws e. absurd (cc);
   place = known.place;
   noted = known.noted;
@@ -45,26 +47,34 @@ split_left_known k known has = record {
   hand = known.hand;
   entries = known.entries;
   once = known.once;
-  few = let g = known.given has.0 in let h = has.1 in omega (arith, length-append k.core.out (k.core.given ∷ []));
-  given = λ e. let g = known.given has.0 in let h = has.1 in (omega (arith, length-append k.core.out (k.core.given ∷ []), more k.core.given), omega (arith, more k.core.given));
+  few = let g = known.given has.0 in let h = has.1 in
+      omega (arith, length-append k.core.out (k.core.given ∷ []));
+  given = λ e. let g = known.given has.0 in let h = has.1 in (
+    omega (arith, length-append k.core.out (k.core.given ∷ []), more k.core.given),
+    omega (arith, more k.core.given),
+  );
 }
 
 constant : (z : Sizes) (n x : ℕ) → IsNamed (fresh z n) x → x < 2
 constant z n x (inl lt) = lt
 constant z n x (inr h) = absurd (omega (arith, fresh_none x z n))
 
-pub split_off_known : (z : Sizes) (k : Known) → IsWithinLimits z → k.core.sizes ≡ z → IsKnown k → HasNumber k.core → IsKnown (split_off k)
+pub split_off_known : (z : Sizes) (k : Known) → IsWithinLimits z → k.core.sizes ≡ z → IsKnown k
+    → HasNumber k.core → IsKnown (split_off k)
 split_off_known z k limits same known has =
-    let all = beginner_known z 0 limits (let two = limits.some_names in omega arith) (omega arith) in
+    let all = beginner_known z 0 limits (let two = limits.some_names in omega arith) (omega arith)
+    in
     record {
       limit = known.limit;
       below = λ x two h. absurd (omega (arith, fresh_none x k.core.sizes k.core.given));
       canonical = λ x named. all.canonical x (inl (constant k.core.sizes k.core.given x named));
-      one = λ x y a b e. all.one x y (inl (constant k.core.sizes k.core.given x a)) (inl (constant k.core.sizes k.core.given y b)) e;
+      one = λ x y a b e. all.one x y (inl (constant k.core.sizes k.core.given x a))
+          (inl (constant k.core.sizes k.core.given y b)) e;
       state = λ ws e. absurd (cc);
       place = subst (λ (y : Sizes). 0 < announced_words y) (sym same) all.place;
       noted = omega arith;
-      phases = subst (λ (y : Sizes). (j : ℕ) (p : Phase) → get_elem? (idle y.announcements) j ≡ some p → IsPlaced y p) (sym same) all.phases;
+      phases = subst (λ (y : Sizes). (j : ℕ) (p : Phase) → get_elem? (idle y.announcements) j
+          ≡ some p → IsPlaced y p) (sym same) all.phases;
       slots = λ x h. absurd (omega (arith, times-nil x));
       word = subst (λ (y : Sizes). 0 < length (idle y.announcements)) (sym same) all.word;
       each = idle-length k.core.sizes.announcements;
@@ -81,10 +91,13 @@ split_off_known z k limits same known has =
     has_some : 0 < k.core.sizes.workers
     has_some = subst (λ (y : Sizes). 0 < y.workers) (sym same) limits.some_workers
 
-module _ {S : Type 0} (seat_table table : TableId) (key sizes : Sizes) (me : Known × List (ℕ × S)) (number held : ℕ) (phases : List Phase)
+module _ {S : Type 0} (seat_table table : TableId) (key sizes : Sizes) (me : Known
+    × List (ℕ × S)) (number held : ℕ) (phases : List Phase)
     (retired noted : List ℕ) (position given : ℕ) (out : List ℕ) (draft : Option ℕ)
-    (is : IsSeated seat_table table key sizes me number held phases retired noted position given out draft) (has : HasNumber me.0.core) where
-  pub left_seated : IsSeated seat_table table key sizes (split_left me.0, me.1) number held phases retired noted position (given + 1) (out ++ given ∷ []) draft
+    (is : IsSeated seat_table table key sizes me number held phases retired noted position given out
+    draft) (has : HasNumber me.0.core) where
+  pub left_seated : IsSeated seat_table table key sizes (split_left me.0, me.1) number held phases
+      retired noted position (given + 1) (out ++ given ∷ []) draft
   left_seated =
       let old = is.worker in
       record {
@@ -114,7 +127,8 @@ module _ {S : Type 0} (seat_table table : TableId) (key sizes : Sizes) (me : Kno
       }
 
   pub off_seated : (other : TableId) (key' : Sizes) → other ≡ seat_table → key' ≡ key →
-      IsSeated {S = S} other other key' sizes (split_off me.0, []) given 0 (idle sizes.announcements) [] [] 0 0 [] None
+      IsSeated {S = S} other other key' sizes (split_off me.0, []) given 0
+      (idle sizes.announcements) [] [] 0 0 [] None
   off_seated other key' same same_key =
       let old = is.worker in
       record {

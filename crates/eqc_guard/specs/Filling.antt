@@ -1,5 +1,6 @@
 -- When a worker may fill a cell, in the words of the entry.
-use Rattle.std.specs.Prelude.{◌≡◌, ℕ, ◌*◌, ◌^◌, ◌<◌, ◌≤◌, List, [], ◌∷◌, length, Option, Some, None, Bool}
+use Rattle.std.specs.Prelude.{◌≡◌, ℕ, ◌*◌, ◌^◌, ◌<◌, ◌≤◌, List, [], ◌∷◌, length, Option, Some, None}
+use Rattle.std.specs.Prelude.{Bool}
 use Rattle.eqc_tree.specs.Tree.{value}
 use Rattle.eqc_tree.specs.Operation.{operate, tag_of}
 use Rattle.eqc_tree.specs.Word.{cell_word}
@@ -24,12 +25,14 @@ abbrev pub AreSmall : Option Filled → Type 0
 AreSmall None = Unit {0}
 AreSmall (Some e) = (e.f.number < 2 ^ 20) × (e.g.number < 2 ^ 20) × (e.r.number < 2 ^ 20)
 
--- the worker has an entry to give: it holds each of its names as often as the entry has it, and the result is right
+-- the worker has an entry to give: it holds each of its names as often as the entry has it, and the
+-- result is right
 abbrev pub HasEntry : Known → Option Filled → Type 0
 HasEntry k None = Unit {0}
 HasEntry k (Some e) =
     AreHeld (e.r.number ∷ e.f.number ∷ e.g.number ∷ []) k.core.held
-    × ((a : ℕ → Bool) → operate e.op (value (tree_of k e.f.number) a) (value (tree_of k e.g.number) a) ≡ value (tree_of k e.r.number) a)
+    × ((a : ℕ → Bool) → operate e.op (value (tree_of k e.f.number) a) (value (tree_of k e.g.number)
+    a) ≡ value (tree_of k e.r.number) a)
 
 -- a worker may fill a cell with an entry, or empty it
 pub record MaySwap (k : Known) (c : ℕ) (filled : Option Filled) : Type 0 where

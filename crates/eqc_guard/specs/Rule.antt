@@ -1,5 +1,7 @@
--- The rule of the table: the words are the machine's words in a row, the state is lawful, and what each worker knows is so.
-use Rattle.std.specs.Prelude.{◌≡◌, ℕ, zero, suc, ◌+◌, ◌*◌, ◌<◌, ◌≤◌, List, [], ◌∷◌, map, Some, None, true, false}
+-- The rule of the table: the words are the machine's words in a row, the state is lawful, and what
+-- each worker knows is so.
+use Rattle.std.specs.Prelude.{◌≡◌, ℕ, zero, suc, ◌+◌, ◌*◌, ◌<◌, ◌≤◌, List, [], ◌∷◌, map, Some, None}
+use Rattle.std.specs.Prelude.{true, false}
 use mathlib.Core.Option.{Option, some, none}
 use lib.ListN.{get_elem?}
 use Rattle.std.specs.HashMap.{HashMap}
@@ -25,7 +27,8 @@ homes_of hs = map entries_at hs
 abbrev pub cores : List Known → List View
 cores ks = map (λ (k : Known). k.core) ks
 
--- where the words of each kind begin; announcements come first, and the i-th of them is the word 2 * i
+-- where the words of each kind begin; announcements come first, and the i-th of them is the word 2
+-- * i
 abbrev pub counts_from : Sizes → ℕ
 counts_from z = 2 * announced_words z
 
@@ -47,29 +50,47 @@ all_words z = boxes_from z + (16 * z.workers + 128)
 
 -- the sizes of a forest, with four announcement words for each worker
 abbrev pub sizes_of : ℕ → ℕ → ℕ → ℕ → Sizes
-sizes_of vars nodes cells workers = record { workers = workers; announcements = 4; names = nodes + 2; cells = cells; variables = vars }
+sizes_of vars nodes cells workers = record {
+  workers = workers;
+  announcements = 4;
+  names =
+      nodes + 2;
+  cells = cells;
+  variables = vars;
+}
 
 -- the trees of the literals of n variables, from i on: variable i has the slot 2 + i
 abbrev pub literal_trees : ℕ → ℕ → List (ℕ × Tree)
 literal_trees i zero = []
 literal_trees i (suc n) = (2 + i, Node i False True) ∷ literal_trees (suc i) n
 
--- what worker 0 knows at the beginning: it holds the literals of n variables, each once, has no copy of the words, and has made no step
+-- what worker 0 knows at the beginning: it holds the literals of n variables, each once, has no
+-- copy of the words, and has made no step
 abbrev pub beginner : Sizes → ℕ → Known
-beginner z n = record { core = record (fresh z 0) { held = slots_from 2 n; given = 1 }; trees = literal_trees 0 n; copy = None; counted = 0 }
+beginner z n = record {
+  core = record (fresh z 0) { held = slots_from 2 n; given = 1 };
+  trees =
+      literal_trees 0 n;
+  copy = None;
+  counted = 0;
+}
 
 -- a copy is the words, and nobody else is active
 pub record CopyHolds (words : List ℕ) (views : List Known) (id : ℕ) (ws : List ℕ) : Type 0 where
   pub same : ws ≡ words
-  pub alone : (j : ℕ) (u : Known) → (j ≡ id → ⊥) → get_elem? views j ≡ some u → u.core.active ≡ false
+  pub alone : (j : ℕ) (u : Known) → (j ≡ id → ⊥) → get_elem? views j ≡ some u
+      → u.core.active ≡ false
 
 pub record Held {S : Type 0} (z : Sizes) (s : State (HashMap ℕ ℕ S) Known) : Type 0 where
   pub words : Words
   pub laid : s.words ≡ flat words
   pub lawful : Lawful z words (homes_of s.homes) (cores s.views)
-  pub knows : (id : ℕ) (k : Known) → get_elem? s.views id ≡ some k → k.core.active ≡ true → Knows words.nodes k
-  pub exact : (id : ℕ) (k : Known) → get_elem? s.views id ≡ some k → k.core.active ≡ true → IsExact words.nodes k
-  pub copies : (id : ℕ) (k : Known) (ws : List ℕ) → get_elem? s.views id ≡ some k → k.copy ≡ Some ws → CopyHolds s.words s.views id ws
+  pub knows : (id : ℕ) (k : Known) → get_elem? s.views id ≡ some k → k.core.active ≡ true
+      → Knows words.nodes k
+  pub exact : (id : ℕ) (k : Known) → get_elem? s.views id ≡ some k → k.core.active ≡ true
+      → IsExact words.nodes k
+  pub copies : (id : ℕ) (k : Known) (ws : List ℕ) → get_elem? s.views id ≡ some k → k.copy ≡ Some ws
+      → CopyHolds s.words s.views id ws
 
 -- a seat's view and slots fit the table and the sizes
 pub record IsWorker {T : Type 0} (id : TableId) (z : Sizes) (me : Known × List T) : Type 0 where

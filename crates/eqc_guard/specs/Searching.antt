@@ -1,4 +1,5 @@
--- A search for a free slot: the slots are tried one after the other, and one that is won is the worker's draft.
+-- A search for a free slot: the slots are tried one after the other, and one that is won is the
+-- worker's draft.
 use Rattle.std.specs.Prelude.{◌≡◌, ℕ, ◌<◌, ◌≤◌, List}
 use Rattle.eqc_core.specs.View.{View}
 use Rattle.eqc_core.specs.Words.{times}
@@ -12,18 +13,21 @@ pub record IsDrafted (slot : ℕ) (old new : Standing) : Type 0 where
   pub first : 2 ≤ slot
   pub there : slot < old.known.core.sizes.names
   pub core : new.known.core ≡ claimed old.known.core slot
-  pub trees : (x : ℕ) → 2 ≤ x → 0 < times x (names_of old.known.core) → tree_of new.known x ≡ tree_of old.known x
+  pub trees : (x : ℕ) → 2 ≤ x → 0 < times x (names_of old.known.core) → tree_of new.known x
+      ≡ tree_of old.known x
   pub copy : KeepsCopy old.known new.known
   pub known : IsKnown new.known
 
--- the slots from `first` up to `last` were tried and seen taken; what was seen taken before still is
+-- the slots from `first` up to `last` were tried and seen taken; what was seen taken before still
+-- is
 pub record HasSeen (first last : ℕ) (old new : Standing) : Type 0 where
   pub forest : new.forest ≡ old.forest
   pub turn : List ℕ
   pub core : new.known.core ≡ record old.known.core { turn = turn }
   pub seen : (x : ℕ) → first ≤ x → x < last → 0 < times x turn
   pub before : (x : ℕ) → 0 < times x old.known.core.turn → 0 < times x turn
-  pub trees : (x : ℕ) → 2 ≤ x → 0 < times x (names_of old.known.core) → tree_of new.known x ≡ tree_of old.known x
+  pub trees : (x : ℕ) → 2 ≤ x → 0 < times x (names_of old.known.core) → tree_of new.known x
+      ≡ tree_of old.known x
   pub copy : KeepsCopy old.known new.known
   pub known : IsKnown new.known
 

@@ -1,11 +1,13 @@
 -- What is put into a box and comes out of it: a task, a result or a stop, with its references.
-use Rattle.std.specs.Prelude.{◌≡◌, ◌≢◌, ℕ, ◌+◌, ◌*◌, ◌^◌, ◌<◌, ◌≤◌, ◌⊎◌, List, [], ◌∷◌, length, Some, Bool}
+use Rattle.std.specs.Prelude.{◌≡◌, ◌≢◌, ℕ, ◌+◌, ◌*◌, ◌^◌, ◌<◌, ◌≤◌, ◌⊎◌, List, [], ◌∷◌, length}
+use Rattle.std.specs.Prelude.{Some, Bool}
 use Rattle.eqc_tree.specs.Tree.{value}
 use Rattle.eqc_tree.specs.Operation.{operate, tag_of}
 use Rattle.eqc_tree.specs.Word.{cell_word}
 use Rattle.eqc_tree.specs.declared.operation.Op.{Op}
 use Rattle.eqc_tree.specs.declared.stopping.Stop.{Stop}
-use Rattle.eqc_tree.specs.declared.stopping.Stop.TheVariants.{NodeLimit, Memory, References, Threads}
+use Rattle.eqc_tree.specs.declared.stopping.Stop.TheVariants.{NodeLimit, Memory, References}
+use Rattle.eqc_tree.specs.declared.stopping.Stop.TheVariants.{Threads}
 use Rattle.eqc_core.specs.Words.{operation_of, first_of, second_of, result_of, cell_names, slots_of}
 use Rattle.eqc_core.specs.Trees.{IsTask, IsStop}
 use Rattle.eqc_core.specs.Moves.{IsReady, AreHeld}
@@ -54,10 +56,12 @@ IsWhole (Stopped stop f g) = (f.number < 2 ^ 20) × (g.number < 2 ^ 20) × (stop
 abbrev pub IsGenuine : Known → Parcel → Type 0
 IsGenuine k Empty = Unit {0}
 IsGenuine k (Task op f g) = Unit {0}
-IsGenuine k (Done e) = (a : ℕ → Bool) → operate e.op (value (tree_of k e.f.number) a) (value (tree_of k e.g.number) a) ≡ value (tree_of k e.r.number) a
+IsGenuine k (Done e) = (a : ℕ → Bool) → operate e.op (value (tree_of k e.f.number) a)
+    (value (tree_of k e.g.number) a) ≡ value (tree_of k e.r.number) a
 IsGenuine k (Stopped stop f g) = Unit {0}
 
--- the worker has a parcel to give: it holds each of its names as often as the parcel has it, and a result is right
+-- the worker has a parcel to give: it holds each of its names as often as the parcel has it, and a
+-- result is right
 abbrev pub HasParcel : Known → Parcel → Type 0
 HasParcel k Empty = Unit {0}
 HasParcel k (Task op f g) = AreHeld (f.number ∷ g.number ∷ []) k.core.held
@@ -73,12 +77,16 @@ pub record MayPut (k : Known) (b : ℕ) (parcel : Parcel) : Type 0 where
 
 -- a word of a box is empty, a result, a task or a stop
 abbrev pub IsParcelWord : ℕ → Type 0
-IsParcelWord word = (word ≡ 0) ⊎ (((op : Op) × (operation_of word ≡ tag_of op)) ⊎ (IsTask word ⊎ IsStop word))
+IsParcelWord word = (word ≡ 0) ⊎ (((op : Op) × (operation_of word ≡ tag_of op))
+    ⊎ (IsTask word ⊎ IsStop word))
 
--- what a swap tells of the word that came out: it is a parcel's, and a result is right by the trees that are known then
+-- what a swap tells of the word that came out: it is a parcel's, and a result is right by the trees
+-- that are known then
 pub record Receives (n : ℕ) (k : Known) : Type 0 where
   pub parcel : IsParcelWord n
-  pub right : (op : Op) → operation_of n ≡ tag_of op → (a : ℕ → Bool) → operate op (value (tree_of k (first_of n)) a) (value (tree_of k (second_of n)) a) ≡ value (tree_of k (result_of n)) a
+  pub right : (op : Op) → operation_of n ≡ tag_of op → (a : ℕ → Bool)
+      → operate op (value (tree_of k (first_of n)) a) (value (tree_of k (second_of n)) a)
+      ≡ value (tree_of k (result_of n)) a
 
 -- a worker may put the word into a box: it holds the word's names, and knows that a result is right
 pub record MayPutWord (k : Known) (b word : ℕ) : Type 0 where

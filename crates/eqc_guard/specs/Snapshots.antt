@@ -1,4 +1,5 @@
--- Snapshots: names that an announcement word beyond the first has confirmed. Such a name stays until its word is given up, though no count says so.
+-- Snapshots: names that an announcement word beyond the first has confirmed. Such a name stays
+-- until its word is given up, though no count says so.
 use Rattle.std.specs.Prelude.{◌≡◌, ◌≢◌, ℕ, ◌<◌, ◌≤◌}
 use mathlib.Core.Option.{some}
 use lib.ListN.{get_elem?}
@@ -23,6 +24,7 @@ KeepsSnapshots old after = (k x : ℕ) → IsSnapshot old.core k x → KeepsSnap
 abbrev pub KeepsOthers : ℕ → Known → Known → Type 0
 KeepsOthers j old after = (k x : ℕ) → k ≢ j → IsSnapshot old.core k x → KeepsSnapshot k x old after
 
--- a snapshot may be taken by the k-th announcement word, which is not the first: it announces nothing
+-- a snapshot may be taken by the k-th announcement word, which is not the first: it announces
+-- nothing
 abbrev pub IsFree : View → ℕ → Type 0
 IsFree v k = (0 < k) × (k < v.sizes.announcements) × IsQuiet (phase_at v k)

@@ -1,5 +1,6 @@
 -- When a worker is split off, why none is, and what it leaves where one is taken in.
-use Rattle.std.specs.Prelude.{◌≡◌, ℕ, ◌+◌, ◌*◌, ◌<◌, ◌≤◌, List, [], length, eqb, if◌then◌else◌, Some}
+use Rattle.std.specs.Prelude.{◌≡◌, ℕ, ◌+◌, ◌*◌, ◌<◌, ◌≤◌, List, [], length, eqb, if◌then◌else◌}
+use Rattle.std.specs.Prelude.{Some}
 use Rattle.eqc_core.specs.View.{View}
 use Rattle.eqc_core.specs.Words.{announced_words, times}
 use Rattle.eqc_core.specs.Seating.{out_after, joined}
@@ -34,21 +35,32 @@ pub record IsSplit (old : Standing) (new : Standing) (other : Standing) : Type 0
 pub record IsJoined (old other new : Standing) : Type 0 where
   pub forest : new.forest ≡ old.forest
   pub core : new.known.core ≡ joined old.known.core other.known.core.number other.known.core
-  pub mine : (x : ℕ) → 2 ≤ x → 0 < times x (names_of old.known.core) → 0 < times x (names_of new.known.core) → tree_of new.known x ≡ tree_of old.known x
-  pub theirs : (x : ℕ) → 2 ≤ x → 0 < times x (names_of other.known.core) → 0 < times x (names_of new.known.core) → tree_of new.known x ≡ tree_of other.known x
+  pub mine : (x : ℕ) → 2 ≤ x → 0 < times x (names_of old.known.core)
+      → 0 < times x (names_of new.known.core) → tree_of new.known x ≡ tree_of old.known x
+  pub theirs : (x : ℕ) → 2 ≤ x → 0 < times x (names_of other.known.core)
+      → 0 < times x (names_of new.known.core) → tree_of new.known x ≡ tree_of other.known x
   pub known : IsKnown new.known
 
--- a worker took another in, after both scanned: it holds what both held, in whatever order, and each name that either held has its tree
+-- a worker took another in, after both scanned: it holds what both held, in whatever order, and
+-- each name that either held has its tree
 pub record IsAbsorbed (old other new : Standing) : Type 0 where
   pub forest : new.forest ≡ old.forest
   pub held : List ℕ
   pub retired : List ℕ
-  pub core : new.known.core ≡ record old.known.core { held = held; position = 0; noted = []; retired = retired; out = out_after old.known.core other.known.core.number other.known.core }
+  pub core : new.known.core ≡ record old.known.core {
+    held = held;
+    position = 0;
+    noted = [];
+    retired = retired;
+    out = out_after old.known.core other.known.core.number other.known.core;
+  }
   pub names : (x : ℕ) → times x held ≡ times x old.known.core.held + times x other.known.core.held
   pub lengths : length held ≡ length old.known.core.held + length other.known.core.held
   pub few : length retired ≤ 2 * announced_words old.known.core.sizes
-  pub mine : (x : ℕ) → 2 ≤ x → 0 < times x old.known.core.held → tree_of new.known x ≡ tree_of old.known x
-  pub theirs : (x : ℕ) → 2 ≤ x → 0 < times x other.known.core.held → tree_of new.known x ≡ tree_of other.known x
+  pub mine : (x : ℕ) → 2 ≤ x → 0 < times x old.known.core.held → tree_of new.known x
+      ≡ tree_of old.known x
+  pub theirs : (x : ℕ) → 2 ≤ x → 0 < times x other.known.core.held → tree_of new.known x
+      ≡ tree_of other.known x
   pub known : IsKnown new.known
 
 -- how many of the numbers that a worker split off have not come back

@@ -13,7 +13,10 @@ pub record Standing : Type 0 where
   pub known : Known
 
 abbrev pub standing_coded : Coded Standing
-standing_coded = coded_via (coded× table_id_coded known_coded) (λ (s : Standing). (s.forest, s.known)) (λ x y e i. record { forest = (e i).0; known = (e i).1 })
+standing_coded = coded_via (coded× table_id_coded known_coded) (λ (s : Standing). (
+  s.forest,
+  s.known,
+)) (λ x y e i. record { forest = (e i).0; known = (e i).1 })
 
 -- a step of the worker: its view of the machine is now v
 pub record Steps (old : Standing) (v : View) (new : Standing) : Type 0 where
@@ -30,7 +33,8 @@ abbrev pub slots_out : {S : Type 0} → List (ℕ × S) → List ℕ
 slots_out {S} xs = map (λ (x : ℕ × S). x.0) xs
 
 -- what a worker's fields have to do with its seat: the slot of a stripe in hand is out with it
-pub record IsSeated {S : Type 0} (seat_table table : TableId) (key sizes : Sizes) (me : Known × List (ℕ × S)) (number held : ℕ) (phases : List Phase)
+pub record IsSeated {S : Type 0} (seat_table table : TableId) (key sizes : Sizes) (me : Known
+    × List (ℕ × S)) (number held : ℕ) (phases : List Phase)
     (retired noted : List ℕ) (position given : ℕ) (out : List ℕ) (draft : Option ℕ) : Type 0 where
   pub one_table : seat_table ≡ table
   pub one_key : key ≡ sizes

@@ -5,7 +5,8 @@ use Rattle.eqc_blif.specs.Netlist.{ModelOf, CoverOf}
 use Rattle.eqc_hierarchy.specs.Signals.{names_of}
 use Rattle.eqc_netlist.specs.NameSets.{place_in}
 
--- the places of some columns, those of covers, those of a model's covers, and those of all covers of a library
+-- the places of some columns, those of covers, those of a model's covers, and those of all covers
+-- of a library
 abbrev pub places_in : List (List ℕ) → List (List ℕ) → List ℕ
 places_in names columns = map (place_in names) columns
 

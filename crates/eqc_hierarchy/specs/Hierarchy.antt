@@ -1,4 +1,5 @@
--- The hierarchy below a main model: an instance is a path of positions of `.subckt` from the main model, the
+-- The hierarchy below a main model: an instance is a path of positions of `.subckt` from the main
+-- model, the
 -- innermost first, so that the path of an instance's parent is its tail.
 use Rattle.std.specs.Prelude.{ℕ, zero, suc, List, [], ◌∷◌, length, map, slice_index_or}
 use Rattle.std.specs.List.{flat_map, position_or_len, range_with_len}
@@ -15,7 +16,8 @@ model_number library name = position_or_len (λ (m : ModelOf). bytes_eq name m.n
 
 -- the models of the instances in a model, in order
 unfoldable pub callees : List ModelOf → ℕ → List ℕ
-callees library m = map (λ (i : InstanceOf). model_number library i.model) (model library m).instances
+callees library m = map (λ (i : InstanceOf). model_number library i.model)
+    (model library m).instances
 
 -- the models that the main model reaches by at most so many instances below one another
 unfoldable pub reached_within : List ModelOf → ℕ → ℕ → List ℕ
@@ -29,11 +31,14 @@ reached library top = reached_within library top (length library)
 -- the model of an instance
 unfoldable pub model_at : List ModelOf → ℕ → List ℕ → ℕ
 model_at library top [] = top
-model_at library top (position ∷ up) = slice_index_or (callees library (model_at library top up)) position (length library)
+model_at library top (position ∷ up) = slice_index_or (callees library (model_at library top up))
+    position (length library)
 
 -- the instances right below an instance
 abbrev pub below : List ModelOf → ℕ → List ℕ → List (List ℕ)
-below library top path = map (λ position. position ∷ path) (range_with_len 0 (length (callees library (model_at library top path))))
+below library top path =
+    map (λ position. position ∷ path)
+    (range_with_len 0 (length (callees library (model_at library top path))))
 
 -- the main model and the instances by at most so many positions, those of fewer positions first
 unfoldable pub paths_within : List ModelOf → ℕ → ℕ → List (List ℕ)

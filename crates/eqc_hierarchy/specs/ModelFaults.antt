@@ -5,7 +5,8 @@ use Rattle.eqc_blif.specs.Netlist.{ModelOf, InstanceOf}
 use Rattle.eqc_netlist.specs.Names.{is_named, has_twice}
 use Rattle.eqc_hierarchy.specs.Hierarchy.{model, model_number}
 use Rattle.eqc_hierarchy.specs.Signals.{once_each}
-use Rattle.eqc_hierarchy.specs.Codes.{formals, has_no_such_model, is_recursive, has_unknown_formal, has_formal_twice, has_missing_formal}
+use Rattle.eqc_hierarchy.specs.Codes.{formals, has_no_such_model, is_recursive, has_unknown_formal}
+use Rattle.eqc_hierarchy.specs.Codes.{has_formal_twice, has_missing_formal}
 
 -- the conditions on an instance
 abbrev pub names_no_model : List ModelOf → InstanceOf → Bool
@@ -13,13 +14,15 @@ names_no_model library i = model_number library i.model == length library
 
 abbrev pub names_no_formal : List ModelOf → InstanceOf → Bool
 names_no_formal library i =
-    list_any (λ formal. not (is_named ((model library (model_number library i.model)).inputs ++ (model library (model_number library i.model)).outputs) formal)) (formals i)
+    list_any (λ formal. not (is_named ((model library (model_number library i.model)).inputs
+    ++ (model library (model_number library i.model)).outputs) formal)) (formals i)
 
 abbrev pub names_formal_twice : InstanceOf → Bool
 names_formal_twice i = has_twice (formals i)
 
 abbrev pub leaves_input_out : List ModelOf → InstanceOf → Bool
-leaves_input_out library i = list_any (λ input. not (is_named (formals i) input)) (model library (model_number library i.model)).inputs
+leaves_input_out library i = list_any (λ input. not (is_named (formals i) input))
+    (model library (model_number library i.model)).inputs
 
 -- the inputs and outputs of a model, each once
 abbrev pub ports : List ModelOf → ℕ → List (List ℕ)

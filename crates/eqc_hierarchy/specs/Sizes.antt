@@ -1,15 +1,18 @@
 -- How large the hierarchy below a model is, counted model by model.
-use Rattle.std.specs.Prelude.{◌≡◌, ℕ, zero, suc, ◌+◌, ◌≤◌, true, List, [], length, nat_lt, ◌<◌, Option, Some, None}
+use Rattle.std.specs.Prelude.{◌≡◌, ℕ, zero, suc, ◌+◌, ◌≤◌, true, List, [], length, nat_lt, ◌<◌}
+use Rattle.std.specs.Prelude.{Option, Some, None}
 use Rattle.std.specs.List.{list_all, sum_by}
 use Rattle.eqc_blif.specs.Netlist.{ModelOf}
 use Rattle.eqc_netlist.specs.Dependency.{in_order}
 use Rattle.eqc_hierarchy.specs.Hierarchy.{model, callees}
 use Rattle.eqc_hierarchy.specs.Signals.{names_of}
 
--- the signals and instances below a model, which is no instance itself, by at most so many instances below one another
+-- the signals and instances below a model, which is no instance itself, by at most so many
+-- instances below one another
 unfoldable pub size_within : List ModelOf → ℕ → ℕ → ℕ
 size_within library zero m = length (names_of (model library m))
-size_within library (suc n) m = length (names_of (model library m)) + sum_by (λ c. size_within library n c + 1) (callees library m)
+size_within library (suc n) m = length (names_of (model library m))
+    + sum_by (λ c. size_within library n c + 1) (callees library m)
 
 -- the signals and instances below a model that never reaches itself
 abbrev pub model_size : List ModelOf → ℕ → ℕ

@@ -1,5 +1,6 @@
 -- Walks in a graph that come back to where they were.
-use Rattle.std.specs.Prelude.{◌≡◌, ℕ, ◌+◌, ◌-◌, ◌<◌, List, [], ◌∷◌, length, take, drop, Contains, slice_index_or}
+use Rattle.std.specs.Prelude.{◌≡◌, ℕ, ◌+◌, ◌-◌, ◌<◌, List, [], ◌∷◌, length, take, drop, Contains}
+use Rattle.std.specs.Prelude.{slice_index_or}
 
 -- no number stands twice in a list
 abbrev pub StandOnce : List ℕ → Type 0
@@ -15,8 +16,10 @@ IsWalk next (x ∷ y ∷ ys) = Contains (next x) y × IsWalk next (y ∷ ys)
 pub record WalksBack (next : ℕ → List ℕ) (first : ℕ) (walk : List ℕ) : Type 0 where
   pub follows : IsWalk next walk
   pub begins : slice_index_or walk 0 0 ≡ first
-  pub back : (j : ℕ) × (j + 1 < length walk) × (slice_index_or walk j 0 ≡ slice_index_or walk (length walk - 1) 0)
-  pub once : (i j : ℕ) → i < j → j + 1 < length walk → slice_index_or walk i 0 ≡ slice_index_or walk j 0 → ⊥
+  pub back : (j : ℕ) × (j + 1 < length walk)
+      × (slice_index_or walk j 0 ≡ slice_index_or walk (length walk - 1) 0)
+  pub once : (i j : ℕ) → i < j → j + 1 < length walk → slice_index_or walk i 0
+      ≡ slice_index_or walk j 0 → ⊥
 
 -- what stands in a walk from a place on, but for the last
 abbrev pub from_on : ℕ → List ℕ → List ℕ

@@ -1,5 +1,6 @@
 -- Words of outputs whose literals are asked about, and what becomes known of them.
-use Rattle.std.proofs.Common.{◌≡◌, ◌≢◌, ℕ, ◌+◌, ◌<◌, ◌≤◌, true, List, [], ◌∷◌, ◌++◌, length, get_or, set, refl, sym, ◌∙◌, ap, subst, inl, inr, arith, Option, None}
+use Rattle.std.proofs.Common.{◌≡◌, ◌≢◌, ℕ, ◌+◌, ◌<◌, ◌≤◌, true, List, [], ◌∷◌, ◌++◌, length, get_or}
+use Rattle.std.proofs.Common.{set, refl, sym, ◌∙◌, ap, subst, inl, inr, arith, Option, None}
 use Rattle.std.proofs.lemmas.Bool.{cases_eq}
 use Rattle.std.proofs.lemmas.List.{get_or_push, get_or_append_left, length_push}
 use Rattle.eqc_graph.specs.declared.node.Node.{Node}
@@ -17,12 +18,16 @@ use Rattle.eqc_inside.proofs.InsideLaws.{asked_equal, equal_set, kept_set}
 use Rattle.eqc_inside.proofs.SearchingLaws.{inside_stays}
 
 -- the first k outputs of a word were asked about
-pub record IsAsking (g : StepsOf) (literals : List (Option ℕ)) (word ps qs : List ℕ) (k : ℕ) : Type 0 where
+pub record IsAsking (g : StepsOf) (literals : List (Option ℕ)) (word ps qs : List ℕ) (k : ℕ) : Type
+    0 where
   pub first : length ps ≡ k
   pub second : length qs ≡ k
-  pub each : (nodes : List Node) (j : ℕ) → IsInside g nodes literals → j < k → AreEqual nodes (get_or ps j 0) (get_or qs j 0) → difference_at g.pair (get_or word j 0) ≡ None
+  pub each : (nodes : List Node) (j : ℕ) → IsInside g nodes literals → j < k
+      → AreEqual nodes (get_or ps j 0) (get_or qs j 0) → difference_at g.pair (get_or word j 0)
+      ≡ None
 
-pub asking_begins : (g : StepsOf) (literals : List (Option ℕ)) (word : List ℕ) → IsAsking g literals word [] [] 0
+pub asking_begins : (g : StepsOf) (literals : List (Option ℕ)) (word : List ℕ)
+    → IsAsking g literals word [] [] 0
 asking_begins g literals word = record {
   first = refl;
   second = refl;
@@ -30,22 +35,32 @@ asking_begins g literals word = record {
 }
 
 -- one output more
-pub asking_more : (g : StepsOf) (literals : List (Option ℕ)) (word ps qs roots : List ℕ) (k x y : ℕ) →
+pub asking_more : (g : StepsOf) (literals : List (Option ℕ)) (word ps qs roots : List ℕ) (k x y : ℕ)
+    →
     get_or word k 0 < length g.pair.first.outputs → roots ≡ roots_of g (get_or word k 0)
-    → x ≡ literal_of literals (get_or roots 0 0) → y ≡ literal_of literals (get_or roots 1 0) → x ≢ 4294967295 → y ≢ 4294967295
-    → IsAsking g literals word ps qs k → IsAsking g literals word (ps ++ x ∷ []) (qs ++ y ∷ []) (k + 1)
+    → x ≡ literal_of literals (get_or roots 0 0) → y ≡ literal_of literals (get_or roots 1 0)
+    → x ≢ 4294967295 → y ≢ 4294967295
+    → IsAsking g literals word ps qs k → IsAsking g literals word (ps ++ x ∷ []) (qs ++ y ∷ []) (k
+    + 1)
 asking_more g literals word ps qs roots k x y inside are ex ey some other so_far = record {
   first = length_push ps x ∙ ap (λ n. n + 1) so_far.first;
   second = length_push qs y ∙ ap (λ n. n + 1) so_far.second;
   each = λ nodes j is less same. elim (cases_eq j k) [
     | inl e ↦
-        let last : AreEqual nodes x y = subst (λ l. AreEqual nodes l y) (ap (λ i. get_or (ps ++ x ∷ []) i 0) e ∙ at_end ps x k so_far.first)
-        (subst (λ l. AreEqual nodes (get_or (ps ++ x ∷ []) j 0) l) (ap (λ i. get_or (qs ++ y ∷ []) i 0) e ∙ at_end qs y k so_far.second) same) in
-        ap (λ i. difference_at g.pair (get_or word i 0)) e ∙ asked_equal g nodes literals roots (get_or word k 0) x y is inside are ex ey some other last.value
+        let last : AreEqual nodes x y =
+        subst (λ l. AreEqual nodes l y) (ap (λ i. get_or (ps ++ x ∷ []) i 0) e
+        ∙ at_end ps x k so_far.first)
+        (subst (λ l. AreEqual nodes (get_or (ps ++ x ∷ []) j 0) l)
+        (ap (λ i. get_or (qs ++ y ∷ []) i 0) e ∙ at_end qs y k so_far.second) same) in
+        ap (λ i. difference_at g.pair (get_or word i 0)) e
+        ∙ asked_equal g nodes literals roots (get_or word k 0) x y is inside are ex ey some
+        other last.value
     | inr apart ↦
         let lower : j < k = omega (arith, less, apart) in
-        so_far.each nodes j is lower (subst (λ l. AreEqual nodes l (get_or qs j 0)) (old ps x j (omega (arith, lower, so_far.first)))
-        (subst (AreEqual nodes (get_or (ps ++ x ∷ []) j 0)) (old qs y j (omega (arith, lower, so_far.second))) same))
+        so_far.each nodes j is lower (subst (λ l. AreEqual nodes l (get_or qs j 0))
+        (old ps x j (omega (arith, lower, so_far.first)))
+        (subst (AreEqual nodes (get_or (ps ++ x ∷ []) j 0))
+        (old qs y j (omega (arith, lower, so_far.second))) same))
   ];
 }
   where
@@ -56,7 +71,8 @@ asking_more g literals word ps qs roots k x y inside are ex ey some other so_far
     old ls l j less = get_or_append_left ls (l ∷ []) 0 j less
 
 -- what was asked about
-pub asked_all : (g : StepsOf) (literals : List (Option ℕ)) (word ps qs : List ℕ) (k : ℕ) → k ≤ length word → IsAsking g literals word ps qs k → AreAskedBy g literals word ps qs
+pub asked_all : (g : StepsOf) (literals : List (Option ℕ)) (word ps qs : List ℕ) (k : ℕ)
+    → k ≤ length word → IsAsking g literals word ps qs k → AreAskedBy g literals word ps qs
 asked_all g literals word ps qs k within so_far = record {
   few = omega (arith, within, so_far.first);
   same = so_far.second ∙ sym so_far.first;
@@ -65,7 +81,8 @@ asked_all g literals word ps qs k within so_far = record {
 
 -- the first k outputs of a word became marked
 pub record IsMarking (word : List ℕ) (count : ℕ) (old new : Alike) (k : ℕ) : Type 0 where
-  pub known : (p : PairOf) → IsKnown p old → ((j : ℕ) → j < count → difference_at p (get_or word j 0) ≡ None) → IsKnown p new
+  pub known : (p : PairOf) → IsKnown p old → ((j : ℕ) → j < count
+      → difference_at p (get_or word j 0) ≡ None) → IsKnown p new
   pub kept : (p : PairOf) → KeepsMarks p old.equal.items new.equal.items
 
 pub marking_begins : (word : List ℕ) (count : ℕ) (old : Alike) → IsMarking word count old old 0
@@ -82,15 +99,19 @@ marking_more word count old now new k less is same so_far = record {
   known = λ p known none.
       let before = so_far.known p known none in
       record {
-        equal = subst (λ marks. Rattle.eqc_compare.specs.Alike.AreEqual p marks) (sym is) (equal_set p now.equal.items (get_or word k 0) before.equal (none k less));
+        equal = subst (λ marks. Rattle.eqc_compare.specs.Alike.AreEqual p marks) (sym is)
+            (equal_set p now.equal.items (get_or word k 0) before.equal (none k less));
         choice = rw same before.choice;
       };
-  kept = λ p. subst (λ marks. KeepsMarks p old.equal.items marks) (sym is) (kept_set p old.equal.items now.equal.items (get_or word k 0) (so_far.kept p));
+  kept = λ p. subst (λ marks. KeepsMarks p old.equal.items marks) (sym is)
+      (kept_set p old.equal.items now.equal.items (get_or word k 0) (so_far.kept p));
 }
 
 -- an output of a word never differs whose two words of literals were shown equal
-pub shown_none : (g : StepsOf) (old new : List Node) (literals : List (Option ℕ)) (word ps qs : List ℕ) (k : ℕ) →
-    Extends old new → IsInside g old literals → AreAskedBy g literals word ps qs → AreEqualWords new ps qs → k < length ps →
+pub shown_none : (g : StepsOf) (old new : List Node) (literals : List (Option ℕ))
+    (word ps qs : List ℕ) (k : ℕ) →
+    Extends old new → IsInside g old literals → AreAskedBy g literals word ps qs
+    → AreEqualWords new ps qs → k < length ps →
     difference_at g.pair (get_or word k 0) ≡ None
 shown_none g old new literals word ps qs k extends is asked shown less =
     asked.each new k (inside_stays g old new literals extends is) less (shown.equal k less)

@@ -19,7 +19,8 @@ pub record HaveOneLiteral (literals : List (Option ℕ)) (j k : ℕ) : Type 0 wh
 
 -- steps of one literal have one value
 pub record TellEqual (p : PairOf) (literals : List (Option ℕ)) : Type 0 where
-  pub each : (j k : ℕ) (a : ℕ → Bool) → j < steps_in p → k < steps_in p → HaveOneLiteral literals j k → value_at p a j ≡ value_at p a k
+  pub each : (j k : ℕ) (a : ℕ → Bool) → j < steps_in p → k < steps_in p
+      → HaveOneLiteral literals j k → value_at p a j ≡ value_at p a k
 
 -- what holds of steps that entered a graph with these nodes
 pub record IsInside (g : StepsOf) (nodes : List Node) (literals : List (Option ℕ)) : Type 0 where
@@ -28,4 +29,5 @@ pub record IsInside (g : StepsOf) (nodes : List Node) (literals : List (Option �
 
 -- outputs that were marked as equal are marked still
 abbrev pub KeepsMarks : PairOf → List Bool → List Bool → Type 0
-KeepsMarks p old new = (o : ℕ) → o < length p.first.outputs → is_marked old o ≡ true → is_marked new o ≡ true
+KeepsMarks p old new = (o : ℕ) → o < length p.first.outputs → is_marked old o ≡ true
+    → is_marked new o ≡ true

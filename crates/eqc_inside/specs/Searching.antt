@@ -1,5 +1,6 @@
 -- What is found of a pair in the graph of its steps, without a diagram.
-use Rattle.std.specs.Prelude.{◌≡◌, ◌⊎◌, ℕ, ◌<◌, Bool, true, List, [], ◌∷◌, length, map, slice_index_or, Contains, Option, ⊤}
+use Rattle.std.specs.Prelude.{◌≡◌, ◌⊎◌, ℕ, ◌<◌, Bool, true, List, [], ◌∷◌, length, map}
+use Rattle.std.specs.Prelude.{slice_index_or, Contains, Option, ⊤}
 use Rattle.eqc_graph.specs.declared.node.Node.{Node}
 use Rattle.eqc_sweep.specs.Sweeping.{HasValue}
 use Rattle.eqc_witness.specs.declared.witness.Witness.{Witness}
@@ -8,7 +9,8 @@ use Rattle.eqc_witness.specs.Witnesses.{IsFoundOf}
 use Rattle.eqc_pair.specs.PairOf.{PairOf}
 use Rattle.eqc_build.specs.Steps.{StepsOf, goals_of}
 use Rattle.eqc_compare.specs.Verdict.{allows_none, differs_under}
-use Rattle.eqc_compare.specs.Comparing.{netlist_of, assumption_of, allowed_at, differs_at, is_chosen_at, IsOutcome}
+use Rattle.eqc_compare.specs.Comparing.{netlist_of, assumption_of, allowed_at, differs_at}
+use Rattle.eqc_compare.specs.Comparing.{is_chosen_at, IsOutcome}
 use Rattle.eqc_inside.specs.Inside.{literal_of}
 use Rattle.eqc_inside.specs.declared.asking.Question.{Question}
 use Rattle.eqc_inside.specs.declared.asking.Answer.{Answer}
@@ -27,9 +29,11 @@ SaysDifferent p nodes output l = HasValue nodes l (differs_at p output)
 abbrev pub TellsVacuous : PairOf → Bool → Type 0
 TellsVacuous p none = none ≡ allows_none (netlist_of p.first) (assumption_of p)
 
--- what is found of the assignments under which the output at a position differs: the least, or that there is none, or any
+-- what is found of the assignments under which the output at a position differs: the least, or that
+-- there is none, or any
 abbrev pub IsWitnessAt : PairOf → ℕ → Witness → Type 0
-IsWitnessAt p output found = IsFoundOf (length p.first.inputs) (differs_under (netlist_of p.first) (netlist_of p.second) (assumption_of p) (slice_index_or p.first.outputs output [])) found
+IsWitnessAt p output found = IsFoundOf (length p.first.inputs) (differs_under (netlist_of p.first)
+    (netlist_of p.second) (assumption_of p) (slice_index_or p.first.outputs output [])) found
 
 -- an output is asked for by a literal that is true where it differs
 pub record IsQuestionOf (p : PairOf) (nodes : List Node) (q : Question) : Type 0 where
@@ -54,14 +58,17 @@ pub record LacksLiteral (g : StepsOf) (literals : List (Option ℕ)) (output : �
 
 -- an output is asked for, or lacks a literal
 abbrev pub IsAskedIn : StepsOf → List (Option ℕ) → List Question → ℕ → Type 0
-IsAskedIn g literals questions output = Contains (outputs_asked questions) output ⊎ LacksLiteral g literals output
+IsAskedIn g literals questions output = Contains (outputs_asked questions) output
+    ⊎ LacksLiteral g literals output
 
 -- what is found of an output that was asked for
 abbrev pub IsAnswerOf : PairOf → Answer → Type 0
 IsAnswerOf p a = IsWitnessAt p a.output a.witness
 
--- what is found of a pair: what its comparison has to find; or an output that is chosen and may differ; or nothing
+-- what is found of a pair: what its comparison has to find; or an output that is chosen and may
+-- differ; or nothing
 abbrev pub IsSearched : PairOf → Bool → Searched → Type 0
 IsSearched p every (Found outcome) = IsOutcome p every outcome
-IsSearched p every (Open output seen) = (output < length p.first.outputs) × (is_chosen_at p output ≡ true) × IsWitnessAt p output (Unknown seen)
+IsSearched p every (Open output seen) = (output < length p.first.outputs)
+    × (is_chosen_at p output ≡ true) × IsWitnessAt p output (Unknown seen)
 IsSearched p every Unasked = ⊤

@@ -1,6 +1,9 @@
--- The ticket word, from which members draw the numbers of outputs. The rule: the numbers in all views are those below the
--- word, each once, and a view has at most as many numbers that are no output as it stands for seats.
-use Rattle.std.specs.Prelude.{◌≡◌, ℕ, ◌+◌, ◌-◌, ◌/◌, ◌^◌, ◌<◌, ◌≤◌, List, [], ◌∷◌, ◌++◌, length, slice_index, eqb, ltb, if◌then◌else◌}
+-- The ticket word, from which members draw the numbers of outputs. The rule: the numbers in all
+-- views are those below the
+-- word, each once, and a view has at most as many numbers that are no output as it stands for
+-- seats.
+use Rattle.std.specs.Prelude.{◌≡◌, ℕ, ◌+◌, ◌-◌, ◌/◌, ◌^◌, ◌<◌, ◌≤◌, List, [], ◌∷◌, ◌++◌, length}
+use Rattle.std.specs.Prelude.{slice_index, eqb, ltb, if◌then◌else◌}
 use mathlib.Core.Option.{some}
 use lib.ListN.{get_elem?}
 use Rattle.atomic_table.specs.Table.{State}
@@ -37,7 +40,8 @@ pub record Counts (k : Key) (n : ℕ) (views : List View) : Type 0 where
   pub seats : total (λ v. v.seats) views ≡ k.seats
   pub numbers : (x : ℕ) → total (λ v. times x v.drawn) views ≡ once_below x n
   pub beyond : total (λ v. strangers k.outputs v.drawn) views ≡ n - k.outputs
-  pub few : (id : ℕ) (v : View) → get_elem? views id ≡ some v → strangers k.outputs v.drawn ≤ v.seats
+  pub few : (id : ℕ) (v : View) → get_elem? views id ≡ some v → strangers k.outputs v.drawn
+      ≤ v.seats
   pub idle : (id : ℕ) (v : View) → get_elem? views id ≡ some v → v.seats ≡ 0 → v.drawn ≡ []
 
 -- the rule of the table, which has the one word

@@ -8,5 +8,6 @@ pub row_over : (vs : List Bool) → row_matches [] vs ≡ true
 row_over [] = refl
 row_over (v ∷ vs) = refl
 
-pub row_matches-past : (i : ℕ) (row : List ℕ) (vs : List Bool) → length row ≤ i → true ≡ row_matches (drop i row) vs
+pub row_matches-past : (i : ℕ) (row : List ℕ) (vs : List Bool) → length row ≤ i
+    → true ≡ row_matches (drop i row) vs
 row_matches-past i row vs past = rw (drop_all i row past) (sym (row_over vs))

@@ -1,6 +1,8 @@
--- The value of a cover (BLIF 1992, "Logic gates"): a cover whose rows end in 1 is the OR of its rows, a cover
+-- The value of a cover (BLIF 1992, "Logic gates"): a cover whose rows end in 1 is the OR of its
+-- rows, a cover
 -- whose rows end in 0 is 0 where a row matches and 1 elsewhere, and a cover without rows is 0.
-use Rattle.std.specs.Prelude.{ℕ, Bool, true, false, ◌&&◌, not, ◌==◌, ◌-◌, List, [], ◌∷◌, length, slice_index, if◌then◌else◌}
+use Rattle.std.specs.Prelude.{ℕ, Bool, true, false, ◌&&◌, not, ◌==◌, ◌-◌, List, [], ◌∷◌, length}
+use Rattle.std.specs.Prelude.{slice_index, if◌then◌else◌}
 use Rattle.std.specs.List.{list_any}
 
 -- whether the byte of a column allows a value: `0` allows 0, `1` allows 1, `-` both

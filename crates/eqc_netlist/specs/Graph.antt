@@ -1,18 +1,23 @@
--- A flat netlist: numbered signals, each with what drives it, and the value of each under values of the inputs.
-use Rattle.std.specs.Prelude.{◌≡◌, ℕ, zero, suc, ◌-◌, ◌<◌, ◌≤◌, Bool, true, false, List, [], ◌∷◌, length, map, slice_index_or}
+-- A flat netlist: numbered signals, each with what drives it, and the value of each under values of
+-- the inputs.
+use Rattle.std.specs.Prelude.{◌≡◌, ℕ, zero, suc, ◌-◌, ◌<◌, ◌≤◌, Bool, true, false, List, [], ◌∷◌}
+use Rattle.std.specs.Prelude.{length, map, slice_index_or}
 use Rattle.eqc_netlist.specs.Cover.{cover_value}
 use Rattle.eqc_netlist.specs.Names.{has_twice}
 use Rattle.eqc_netlist.specs.Dependency.{among, in_order}
 
--- what drives a signal: the input at a position, the signal at the other end of a tie, or a cover over
+-- what drives a signal: the input at a position, the signal at the other end of a tie, or a cover
+-- over
 -- signals with the rows of a number
 pub data DriverOf : Type 0 where
   input : (position : ℕ) → DriverOf
   tie : (other : ℕ) → DriverOf
   cover : (columns : List ℕ) (rows : ℕ) → DriverOf
 
--- a flat netlist: the names of its inputs and outputs, the signals of the outputs, each signal's instance and
--- name, each instance's parent and position there (instance 0, the main model, has none), each signal's
+-- a flat netlist: the names of its inputs and outputs, the signals of the outputs, each signal's
+-- instance and
+-- name, each instance's parent and position there (instance 0, the main model, has none), each
+-- signal's
 -- driver, the rows of covers, and an order of the signals
 pub record FlatOf : Type 0 where
   pub inputs : List (List ℕ)
@@ -53,7 +58,8 @@ value_of f a s = settled f a (length f.drivers) s
 abbrev pub IsWithinSizes : ℕ → ℕ → ℕ → DriverOf → Type 0
 IsWithinSizes inputs signals rows (input position) = position < inputs
 IsWithinSizes inputs signals rows (tie other) = other < signals
-IsWithinSizes inputs signals rows (cover columns r) = ((k : ℕ) → k < length columns → slice_index_or columns k 0 < signals) × (r < rows)
+IsWithinSizes inputs signals rows (cover columns r) = ((k : ℕ) → k < length columns
+    → slice_index_or columns k 0 < signals) × (r < rows)
 
 -- whether a driver speaks of inputs, signals and rows that are there
 abbrev pub IsWithin : FlatOf → DriverOf → Type 0
@@ -71,18 +77,23 @@ pub record IsFlat (f : FlatOf) : Type 0 where
   pub inputs_differ : has_twice f.inputs ≡ false
   pub outputs_differ : has_twice f.outputs ≡ false
   -- each signal that it speaks of is there
-  pub outputs_within : (o : ℕ) → o < length f.outputs → slice_index_or f.output_signals o 0 < length f.drivers
+  pub outputs_within : (o : ℕ) → o < length f.outputs → slice_index_or f.output_signals o 0
+      < length f.drivers
   pub drivers_within : (s : ℕ) → s < length f.drivers → IsWithin f (driver_at f s)
   pub steps_within : (k : ℕ) → k < length f.steps → slice_index_or f.steps k 0 < length f.drivers
   -- the instance of each signal is there, and the parent of each instance stands before it
-  pub instances_within : (s : ℕ) → s < length f.signals → (slice_index_or f.signals s (0, [])).0 ≤ length f.places
-  pub parents_before : (i : ℕ) → 1 ≤ i → i ≤ length f.places → (slice_index_or f.places (i - 1) (0, 0)).0 < i
+  pub instances_within : (s : ℕ) → s < length f.signals → (slice_index_or f.signals s (0, [])).0
+      ≤ length f.places
+  pub parents_before : (i : ℕ) → 1 ≤ i → i ≤ length f.places
+      → (slice_index_or f.places (i - 1) (0, 0)).0 < i
   -- the steps have each signal once, after those that it depends on
   pub ordered : in_order (λ s. dependencies (driver_at f s)) [] f.steps ≡ true
   pub each_step : (s : ℕ) → s < length f.drivers → among f.steps s ≡ true
   pub step_count : length f.steps ≡ length f.drivers
-  pub once : (i j : ℕ) → i < length f.steps → j < length f.steps → slice_index_or f.steps i 0 ≡ slice_index_or f.steps j 0 → i ≡ j
+  pub once : (i j : ℕ) → i < length f.steps → j < length f.steps → slice_index_or f.steps i 0
+      ≡ slice_index_or f.steps j 0 → i ≡ j
 
 -- every signal's value is what its driver makes of the values
 abbrev pub FollowsDrivers : FlatOf → Type 0
-FollowsDrivers f = (a : ℕ → Bool) (s : ℕ) → s < length f.drivers → value_of f a s ≡ driven f.rows a (value_of f a) (driver_at f s)
+FollowsDrivers f = (a : ℕ → Bool) (s : ℕ) → s < length f.drivers
+    → value_of f a s ≡ driven f.rows a (value_of f a) (driver_at f s)

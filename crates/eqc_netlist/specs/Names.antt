@@ -14,4 +14,5 @@ has_twice (name ∷ names) = is_named names name || has_twice names
 
 -- a name stands at two places of a list
 abbrev pub StandsTwice : List (List ℕ) → List ℕ → Type 0
-StandsTwice names name = (j : ℕ) × (k : ℕ) × (j < k) × (k < length names) × (slice_index_or names j [] ≡ name) × (slice_index_or names k [] ≡ name)
+StandsTwice names name = (j : ℕ) × (k : ℕ) × (j < k) × (k < length names)
+    × (slice_index_or names j [] ≡ name) × (slice_index_or names k [] ≡ name)

@@ -8,4 +8,5 @@ piece bytes k = take 8 (drop (8 * k) bytes)
 
 -- all whole pieces, and what is left behind them, of less than eight bytes
 abbrev pub pieces : List ℕ → List (List ℕ)
-pieces bytes = map (piece bytes) (range_with_len 0 (length bytes / 8)) ++ drop (8 * (length bytes / 8)) bytes ∷ []
+pieces bytes = map (piece bytes) (range_with_len 0 (length bytes / 8))
+    ++ drop (8 * (length bytes / 8)) bytes ∷ []

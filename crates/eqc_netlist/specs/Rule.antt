@@ -1,7 +1,10 @@
 -- The codes of the rules of hierarchies.
 use Rattle.std.specs.Prelude.{ℕ}
 use Rattle.eqc_netlist.specs.declared.rule.Rule.{Rule}
-use Rattle.eqc_netlist.specs.declared.rule.Rule.TheVariants.{NoSuchModel, Recursion, UnknownFormal, FormalTwice, MissingInput, DrivenTwice, Undriven, Circle, TooLarge, ManyInputs, Memory}
+use Rattle.eqc_netlist.specs.declared.rule.Rule.TheVariants.{NoSuchModel, Recursion, UnknownFormal}
+use Rattle.eqc_netlist.specs.declared.rule.Rule.TheVariants.{FormalTwice, MissingInput, DrivenTwice}
+use Rattle.eqc_netlist.specs.declared.rule.Rule.TheVariants.{Undriven, Circle, TooLarge, ManyInputs}
+use Rattle.eqc_netlist.specs.declared.rule.Rule.TheVariants.{Memory}
 
 abbrev pub rule_code : Rule → ℕ
 rule_code NoSuchModel = 21

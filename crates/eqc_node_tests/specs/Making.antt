@@ -1,7 +1,8 @@
 -- What the tests know of a worker that makes nodes.
 use Rattle.std.specs.Prelude.{◌≡◌, ℕ, ◌<◌, ◌≤◌, List, None, cond, eqb, sum_by}
 use Rattle.eqc_core.specs.declared.phase.Phase.{Phase}
-use Rattle.eqc_core.specs.declared.phase.Phase.TheVariants.{Idle, Seen, Announced, Confirmed, Missed}
+use Rattle.eqc_core.specs.declared.phase.Phase.TheVariants.{Idle, Seen, Announced, Confirmed}
+use Rattle.eqc_core.specs.declared.phase.Phase.TheVariants.{Missed}
 use Rattle.eqc_core.specs.View.{View}
 use Rattle.eqc_core.specs.Words.{times}
 use Rattle.eqc_guard.specs.declared.reference.Ref.{Ref}
@@ -26,7 +27,8 @@ pub record Rests (v : View) : Type 0 where
   pub no_draft : v.draft ≡ None
   pub no_hand : v.hand ≡ None
 
--- a worker is at rest in a forest of at least so many variables that has cells, and holds what the references are of
+-- a worker is at rest in a forest of at least so many variables that has cells, and holds what the
+-- references are of
 pub record IsMaking (variables : ℕ) (references : List Ref) (s : Standing) : Type 0 where
   pub rests : Rests s.known.core
   pub four_words : s.known.core.sizes.announcements ≡ 4

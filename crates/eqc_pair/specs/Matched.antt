@@ -1,6 +1,9 @@
--- Whether two netlists have the same inputs and outputs, which outputs are chosen, and the order of variables that a text
+-- Whether two netlists have the same inputs and outputs, which outputs are chosen, and the order of
+-- variables that a text
 -- gives: words between blanks and line ends, `#` cutting to the end of its line.
-use Rattle.std.specs.Prelude.{◌≡◌, ℕ, ◌<◌, Bool, true, false, ◌||◌, ◌&&◌, not, List, [], ◌∷◌, length, map, filter, nat_lt, slice_index_or, ◌==◌, Option, Some, None, Vec, MatchOption, if◌then◌else◌}
+use Rattle.std.specs.Prelude.{◌≡◌, ℕ, ◌<◌, Bool, true, false, ◌||◌, ◌&&◌, not, List, [], ◌∷◌}
+use Rattle.std.specs.Prelude.{length, map, filter, nat_lt, slice_index_or, ◌==◌, Option, Some, None}
+use Rattle.std.specs.Prelude.{Vec, MatchOption, if◌then◌else◌}
 use Rattle.std.specs.declared.alloc.Global.{Global}
 use Rattle.std.specs.List.{list_all, position_or_len, before_first, slice_split, flat_map}
 use Rattle.std.specs.Str.{bytes_eq}
@@ -36,7 +39,8 @@ chosen_outputs names outputs = filter (is_chosen names) outputs
 
 -- marks of the outputs that are not chosen
 pub record AreLeftOut (names outputs : List (List ℕ)) (marks : List Bool) : Type 0 where
-  pub each : (o : ℕ) → o < length outputs → slice_index_or marks o false ≡ not (is_chosen names (slice_index_or outputs o []))
+  pub each : (o : ℕ) → o < length outputs → slice_index_or marks o false
+      ≡ not (is_chosen names (slice_index_or outputs o []))
 
 -- marks of the outputs that are not chosen, or none where a name is that of no output
 abbrev pub MarkLeftOut : List (List ℕ) → List (List ℕ) → Option (Vec Bool Global) → Type 0
@@ -60,7 +64,8 @@ line_words line = filter is_word (slice_split is_blank (before_first (λ b. b ==
 abbrev pub order_words : List ℕ → List (List ℕ)
 order_words text = flat_map line_words (slice_split (λ b. b == 10) text)
 
--- the code of an order text over these inputs: 2 too long, 51 a word that is no input, 52 a word twice,
+-- the code of an order text over these inputs: 2 too long, 51 a word that is no input, 52 a word
+-- twice,
 -- 53 an input that isn't there
 abbrev pub order_code : List (List ℕ) → List ℕ → Option ℕ
 order_code inputs text =

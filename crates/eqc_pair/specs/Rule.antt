@@ -1,7 +1,9 @@
 -- The codes of the rules of a pair, of an order text and of an assumption.
 use Rattle.std.specs.Prelude.{ℕ}
 use Rattle.eqc_pair.specs.declared.rule.Rule.{Rule}
-use Rattle.eqc_pair.specs.declared.rule.Rule.TheVariants.{OtherInputs, OtherOutputs, UnknownOutput, UnknownWord, WordTwice, InputLeftOut, AssumeInputs, AssumeOutput}
+use Rattle.eqc_pair.specs.declared.rule.Rule.TheVariants.{OtherInputs, OtherOutputs, UnknownOutput}
+use Rattle.eqc_pair.specs.declared.rule.Rule.TheVariants.{UnknownWord, WordTwice, InputLeftOut}
+use Rattle.eqc_pair.specs.declared.rule.Rule.TheVariants.{AssumeInputs, AssumeOutput}
 
 abbrev pub rule_code : Rule → ℕ
 rule_code OtherInputs = 41

@@ -1,7 +1,8 @@
 -- The words by which a report names what was refused.
 use Rattle.std.specs.Prelude.{ℕ, List, codes}
 use Rattle.eqc_pair.specs.declared.refused.Side.{Side}
-use Rattle.eqc_pair.specs.declared.refused.Side.TheVariants.{First, Second, Pair, Order, Assume, Options}
+use Rattle.eqc_pair.specs.declared.refused.Side.TheVariants.{First, Second, Pair, Order, Assume}
+use Rattle.eqc_pair.specs.declared.refused.Side.TheVariants.{Options}
 
 abbrev pub side_word : Side → List ℕ
 side_word First = codes "first"

@@ -1,5 +1,6 @@
 -- What is told of the place of a difference.
-use Rattle.std.specs.Prelude.{◌≡◌, ℕ, ◌<◌, Bool, true, not, ltb, List, length, map, All, Option, Some, IfSome, slice_index}
+use Rattle.std.specs.Prelude.{◌≡◌, ℕ, ◌<◌, Bool, true, not, ltb, List, length, map, All, Option}
+use Rattle.std.specs.Prelude.{Some, IfSome, slice_index}
 use Rattle.eqc_graph.specs.Graph.{differ, literal_value, IsWithin}
 use Rattle.eqc_graph.specs.declared.node.Node.{Node}
 use Rattle.eqc_netlist.specs.Graph.{value_of}
@@ -12,9 +13,11 @@ use Rattle.eqc_place.specs.declared.place.Place.{Place}
 use Rattle.eqc_place.specs.declared.place.Places.{Places}
 use Rattle.eqc_place.specs.declared.place.Meeting.{Meeting}
 
--- the assumption allows values of the variables: its output is 1 under them. Without an assumption all are allowed
+-- the assumption allows values of the variables: its output is 1 under them. Without an assumption
+-- all are allowed
 pub record IsAllowed (p : PairOf) (a : ℕ → Bool) : Type 0 where
-  pub holds : IfSome p.assumes (λ h. value_of h (inputs_under (assumed_variables p) a) (slice_index h.output_signals 0) ≡ true)
+  pub holds : IfSome p.assumes (λ h. value_of h (inputs_under (assumed_variables p) a)
+      (slice_index h.output_signals 0) ≡ true)
 
 -- a literal of the graph has the value of a step under all values of the variables that are allowed
 pub record HasAllowedValue (p : PairOf) (nodes : List Node) (step l : ℕ) : Type 0 where
@@ -22,17 +25,20 @@ pub record HasAllowedValue (p : PairOf) (nodes : List Node) (step l : ℕ) : Typ
   pub value : (a : ℕ → Bool) → IsAllowed p a → literal_value nodes a l ≡ value_at p a step
 
 -- each literal of a table has the value of its step so
-pub record HaveAllowedValues (p : PairOf) (nodes : List Node) (literals : List (Option ℕ)) : Type 0 where
-  pub each : (k l : ℕ) → reference_of literals k ≡ Some l → HasAllowedValue p nodes k l
+pub record HaveAllowedValues (p : PairOf) (nodes : List Node) (literals : List (Option ℕ)) : Type 0
+  where
+    pub each : (k l : ℕ) → reference_of literals k ≡ Some l → HasAllowedValue p nodes k l
 
 -- literals of steps in some graph
 pub record AreProved (p : PairOf) (literals : List (Option ℕ)) : Type 0 where
   pub nodes : List Node
   pub are : HaveAllowedValues p nodes literals
 
--- a step has the value of its partner, or the opposite one, under all values of the variables that are allowed
+-- a step has the value of its partner, or the opposite one, under all values of the variables that
+-- are allowed
 pub record IsPartner (p : PairOf) (step : ℕ) (q : Partner) : Type 0 where
-  pub value : (a : ℕ → Bool) → IsAllowed p a → value_at p a step ≡ differ q.is_opposite (value_at p a q.step)
+  pub value : (a : ℕ → Bool) → IsAllowed p a → value_at p a step ≡ differ q.is_opposite
+      (value_at p a q.step)
 
 -- exactly one of two steps is of the first netlist
 pub record AreApart (p : PairOf) (step other : ℕ) : Type 0 where
@@ -45,9 +51,10 @@ pub record IsColumn (p : PairOf) (a : ℕ → Bool) (c : Column) : Type 0 where
   pub apart : IfSome c.partner (λ (q : Partner). AreApart p c.step q.step)
 
 -- these are columns for steps
-pub record AreColumns (p : PairOf) (a : ℕ → Bool) (steps : List ℕ) (columns : List Column) : Type 0 where
-  pub same : map (λ (c : Column). c.step) columns ≡ steps
-  pub each : All (IsColumn p a) columns
+pub record AreColumns (p : PairOf) (a : ℕ → Bool) (steps : List ℕ) (columns : List Column) : Type 0
+  where
+    pub same : map (λ (c : Column). c.step) columns ≡ steps
+    pub each : All (IsColumn p a) columns
 
 -- a place is a step with its value, and with all that it uses
 pub record IsPlace (g : StepsOf) (a : ℕ → Bool) (x : Place) : Type 0 where

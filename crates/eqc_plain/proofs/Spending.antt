@@ -6,7 +6,11 @@ pub spends_refl : (t : Option ℕ) → Spends t t
 spends_refl t = record { endless = λ e. e; left = λ n h. h }
 
 pub spends_trans : {a b c : Option ℕ} → Spends a b → Spends b c → Spends a c
-spends_trans p q = record { endless = λ e. q.endless (p.endless e); left = λ n h. q.left n (p.left n h) }
+spends_trans p q = record {
+  endless = λ e. q.endless (p.endless e);
+  left =
+      λ n h. q.left n (p.left n h);
+}
 
 -- the same number is left
 pub spends_as : (a b : Option ℕ) → b ≡ a → Spends a b
@@ -22,4 +26,5 @@ none_left (Some left) h = ap Some (omega (arith, h))
 
 -- what is spent stays so
 pub spent_stays : (a b : Option ℕ) → Spends a b → IsSpent a → IsSpent b
-spent_stays a b s e = let none : 0 ≤ 0 = omega arith in none_left b (s.left 0 (subst (AtMost 0) (sym e) none))
+spent_stays a b s e = let none : 0 ≤ 0 = omega arith in
+    none_left b (s.left 0 (subst (AtMost 0) (sym e) none))

@@ -33,4 +33,5 @@ HasNoMore old new = (o : Op) (p q x : ℕ) → HasEntry new o p q x → HasEntry
 
 -- no entry came but r for the operation on f and g
 abbrev pub MayHave : Op → (f g r : ℕ) → List ℕ → List ℕ → Type 0
-MayHave op f g r old new = (o : Op) (p q x : ℕ) → HasEntry new o p q x → HasEntry old o p q x ⊎ IsSame op f g r o p q x
+MayHave op f g r old new = (o : Op) (p q x : ℕ) → HasEntry new o p q x → HasEntry old o p q x
+    ⊎ IsSame op f g r o p q x

@@ -1,4 +1,5 @@
--- For proofs alone: that a number is an operation's result, and Shannon's expansion at the top variable (Bryant 1986, section 4.3). No public promise cites it.
+-- For proofs alone: that a number is an operation's result, and Shannon's expansion at the top
+-- variable (Bryant 1986, section 4.3). No public promise cites it.
 use Rattle.std.specs.Prelude.{◌≡◌, ℕ, ◌<◌, ◌≤◌, Bool, if◌then◌else◌}
 use Rattle.eqc_tree.specs.Operation.{operate}
 use Rattle.eqc_tree.specs.declared.operation.Op.{Op}
@@ -35,7 +36,8 @@ pub record IsExpansion (m : Meaning) (v f g f0 f1 g0 g1 : ℕ) : Type 0 where
   pub cofactors_g : AreHalves m v g g0 g1
   pub top : (w : ℕ) → w < m.root f → w < m.root g → w < v
 
--- low and high are the results of the operation on both pairs of cofactors at v, the top variable of f and g
+-- low and high are the results of the operation on both pairs of cofactors at v, the top variable
+-- of f and g
 pub record HasBoth (m : Meaning) (op : Op) (f g v low high : ℕ) : Type 0 where
   pub f0 : ℕ
   pub f1 : ℕ

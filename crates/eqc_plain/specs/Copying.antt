@@ -1,5 +1,6 @@
 -- For proofs alone: a copy of the nodes below a number. No public promise cites it.
-use Rattle.std.specs.Prelude.{◌≡◌, ℕ, ◌+◌, ◌-◌, ◌<◌, ◌≤◌, ◌⊎◌, Bool, true, List, length, slice_index, nat_eq}
+use Rattle.std.specs.Prelude.{◌≡◌, ℕ, ◌+◌, ◌-◌, ◌<◌, ◌≤◌, ◌⊎◌, Bool, true, List, length}
+use Rattle.std.specs.Prelude.{slice_index, nat_eq}
 use Rattle.std.specs.List.{list_any}
 use Rattle.eqc_tree.specs.Tree.{value}
 use Rattle.eqc_plain.specs.Store.{tree_at, root, low_of, high_of}
@@ -46,7 +47,8 @@ pub record IsCopyOf (s c : Store) (x m : ℕ) : Type 0 where
   pub starts : root s.variables (tree_at s.nodes x) ≤ root c.variables (tree_at c.nodes m)
   pub function : (a : ℕ → Bool) → value (tree_at c.nodes m) a ≡ value (tree_at s.nodes x) a
 
--- ms are the numbers in c of the first of xs, each constant being itself, and c has no node for a constant
+-- ms are the numbers in c of the first of xs, each constant being itself, and c has no node for a
+-- constant
 pub record IsCopying (s : Store) (xs ms : List ℕ) (c : Store) : Type 0 where
   pub variables : c.variables ≡ s.variables
   pub limit : c.limit ≡ s.limit

@@ -1,5 +1,6 @@
 -- For proofs alone: what a search for the least assignment keeps. No public promise cites it.
-use Rattle.std.specs.Prelude.{◌≡◌, ◌≢◌, ℕ, ◌<◌, ◌≤◌, ◌+◌, ◌-◌, Bool, true, false, not, ◌||◌, List, Option, None, Some, length, slice_index, slice_index_or}
+use Rattle.std.specs.Prelude.{◌≡◌, ◌≢◌, ℕ, ◌<◌, ◌≤◌, ◌+◌, ◌-◌, Bool, true, false, not, ◌||◌, List}
+use Rattle.std.specs.Prelude.{Option, None, Some, length, slice_index, slice_index_or}
 use Rattle.eqc_tree.specs.Tree.{value}
 use Rattle.eqc_plain.specs.declared.store.Store.{Store}
 use Rattle.eqc_plain.specs.declared.search.Search.{Search}
@@ -34,12 +35,15 @@ pub record IsBranch (variables : ℕ) (ws : List ℕ) (x v low high : ℕ) : Typ
   pub high_less : high < x
 
 -- below n each number is marked by the marks of its children
-pub record AreMarked (ws : List ℕ) (choices : List (Option Bool)) (marks : List Bool) (n : ℕ) : Type 0 where
+pub record AreMarked (ws : List ℕ) (choices : List (Option Bool)) (marks : List Bool) (n : ℕ) : Type
+    0 where
   pub at_false : slice_index_or marks 0 false ≡ false
   pub at_true : slice_index_or marks 1 false ≡ true
   pub nodes : (x : ℕ) → 2 ≤ x → x < n →
-      slice_index_or marks x false ≡ leads_by (slice_index_or choices (variable_of (slice_index ws (x - 2))) None)
-      (slice_index_or marks (low_of (slice_index ws (x - 2))) false) (slice_index_or marks (high_of (slice_index ws (x - 2))) false)
+      slice_index_or marks x false
+      ≡ leads_by (slice_index_or choices (variable_of (slice_index ws (x - 2))) None)
+      (slice_index_or marks (low_of (slice_index ws (x - 2))) false)
+      (slice_index_or marks (high_of (slice_index ws (x - 2))) false)
 
 -- a search at number f has its lists' lengths
 pub record IsSized (store : Store) (f : ℕ) (search : Search) : Type 0 where

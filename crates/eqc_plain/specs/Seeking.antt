@@ -1,5 +1,7 @@
--- For proofs alone: where the words of a unique table are found (open addressing). No public promise cites it.
-use Rattle.std.specs.Prelude.{◌≡◌, ◌≢◌, ℕ, ◌+◌, ◌-◌, ◌*◌, ◌/◌, ◌%◌, ◌^◌, ◌<◌, List, length, slice_index, set, ltb, if◌then◌else◌}
+-- For proofs alone: where the words of a unique table are found (open addressing). No public
+-- promise cites it.
+use Rattle.std.specs.Prelude.{◌≡◌, ◌≢◌, ℕ, ◌+◌, ◌-◌, ◌*◌, ◌/◌, ◌%◌, ◌^◌, ◌<◌, List, length}
+use Rattle.std.specs.Prelude.{slice_index, set, ltb, if◌then◌else◌}
 use Rattle.std.specs.Int.Bits.{bit_and}
 use Rattle.eqc_plain.specs.declared.unique_table.Sought.{Sought}
 use Rattle.eqc_plain.specs.declared.unique_table.Sought.TheVariants.{Found, Free, Full}
@@ -18,17 +20,20 @@ mark_of word = mixed_of word / 2 ^ 28 % 4096 * 1048576
 
 -- the place that comes so many steps behind a place, of so many
 unfoldable pub position : ℕ → ℕ → ℕ → ℕ
-position places place step = if ltb step (places - place) then place + step else step - (places - place)
+position places place step = if ltb step (places - place) then place
+    + step else step - (places - place)
 
 -- what stands so many steps behind a word's own place
 abbrev pub entry_behind : List ℕ → ℕ → ℕ → ℕ
-entry_behind places word step = slice_index places (position (length places) (home_of (length places) word) step)
+entry_behind places word step =
+    slice_index places (position (length places) (home_of (length places) word) step)
 
 -- the places before this step, from the word's own one on, are taken
 abbrev pub AreTaken : List ℕ → ℕ → ℕ → Type 0
 AreTaken places word step = (e : ℕ) → e < step → entry_behind places word e ≢ 0
 
--- a word that stands in slot k is found: its place comes behind its own one, and none between is free
+-- a word that stands in slot k is found: its place comes behind its own one, and none between is
+-- free
 pub record Sits (places : List ℕ) (word k : ℕ) : Type 0 where
   pub step : ℕ
   pub within : step < length places
@@ -50,7 +55,8 @@ pub record IsFree (places : List ℕ) (word place : ℕ) : Type 0 where
 
 -- none of the words is this one, if all are found
 abbrev pub IsMissed : List ℕ → List ℕ → ℕ → Type 0
-IsMissed words places word = IsPlaced places words → (k : ℕ) → k < length words → slice_index words k ≢ word
+IsMissed words places word = IsPlaced places words → (k : ℕ) → k < length words
+    → slice_index words k ≢ word
 
 -- what a search for a word came to
 abbrev pub IsSought : List ℕ → List ℕ → ℕ → Sought → Type 0

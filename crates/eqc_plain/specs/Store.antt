@@ -1,5 +1,7 @@
--- The tree that each number stands for (Bryant 1986, section 2: a node is a variable and two children), and what a store holds.
-use Rattle.std.specs.Prelude.{◌≡◌, ◌≢◌, ℕ, ◌<◌, ◌≤◌, ◌+◌, ◌-◌, ◌^◌, Bool, List, [], ◌∷◌, ◌++◌, length, replicate, slice_index, slice_index_or, if◌then◌else◌}
+-- The tree that each number stands for (Bryant 1986, section 2: a node is a variable and two
+-- children), and what a store holds.
+use Rattle.std.specs.Prelude.{◌≡◌, ◌≢◌, ℕ, ◌<◌, ◌≤◌, ◌+◌, ◌-◌, ◌^◌, Bool, List, [], ◌∷◌, ◌++◌}
+use Rattle.std.specs.Prelude.{length, replicate, slice_index, slice_index_or, if◌then◌else◌}
 use Rattle.eqc_tree.specs.Word.{node_word, node_variable, node_low, node_high}
 use Rattle.eqc_tree.specs.Tree.{Tree, False, True, Node, value}
 use Rattle.eqc_tree.specs.Holding.{Entry, Holding}
@@ -18,7 +20,8 @@ high_of w = node_high w
 
 -- the tree of a node's word, over the trees that stand before it
 abbrev pub planted : List Tree → ℕ → Tree
-planted ts w = Node (variable_of w) (slice_index_or ts (low_of w) False) (slice_index_or ts (high_of w) False)
+planted ts w = Node (variable_of w) (slice_index_or ts (low_of w) False)
+    (slice_index_or ts (high_of w) False)
 
 -- the trees ts and those of the words, in order
 abbrev pub grown : List Tree → List ℕ → List Tree
@@ -41,7 +44,8 @@ Grows old new = (more : List ℕ) × (old ++ more ≡ new)
 abbrev pub listed : ℕ → List Tree → List ℕ → List Entry
 listed i [] counts = []
 listed i (t ∷ ts) [] = []
-listed i (t ∷ ts) (c ∷ counts) = replicate c (record { number = i; tree = t }) ++ listed (i + 1) ts counts
+listed i (t ∷ ts) (c ∷ counts) = replicate c (record { number = i; tree = t })
+    ++ listed (i + 1) ts counts
 
 -- what a store holds
 unfoldable pub holding_of : ℕ → List ℕ → List ℕ → Holding
@@ -51,7 +55,8 @@ holding_of variables ws counts = record { variables = variables; held = listed 0
 abbrev pub entry_at : List ℕ → ℕ → Entry
 entry_at ws x = record { number = x; tree = tree_at ws x }
 
--- From here on: the order in which a store keeps its words, and what its calls say of them to one another. No public promise cites it.
+-- From here on: the order in which a store keeps its words, and what its calls say of them to one
+-- another. No public promise cites it.
 
 -- the variable of a tree's root, or n for a constant
 abbrev pub root : ℕ → Tree → ℕ
@@ -81,7 +86,8 @@ pub record IsStore (variables limit : ℕ) (ws counts : List ℕ) : Type 0 where
 pub record IsNode (variables : ℕ) (ws : List ℕ) (v low high x : ℕ) : Type 0 where
   pub within : x < length ws + 2
   pub root_at : v ≤ root variables (tree_at ws x)
-  pub function : (a : ℕ → Bool) → value (tree_at ws x) a ≡ (if a v then value (tree_at ws high) a else value (tree_at ws low) a)
+  pub function : (a : ℕ → Bool) → value (tree_at ws x) a
+      ≡ (if a v then value (tree_at ws high) a else value (tree_at ws low) a)
 
 -- x is low where v is 0 and high where v is 1, and both start below v
 pub record AreCofactors (variables : ℕ) (ws : List ℕ) (v x low high : ℕ) : Type 0 where
@@ -89,4 +95,5 @@ pub record AreCofactors (variables : ℕ) (ws : List ℕ) (v x low high : ℕ) :
   pub high_within : high < length ws + 2
   pub above_low : v < root variables (tree_at ws low)
   pub above_high : v < root variables (tree_at ws high)
-  pub function : (a : ℕ → Bool) → value (tree_at ws x) a ≡ (if a v then value (tree_at ws high) a else value (tree_at ws low) a)
+  pub function : (a : ℕ → Bool) → value (tree_at ws x) a
+      ≡ (if a v then value (tree_at ws high) a else value (tree_at ws low) a)

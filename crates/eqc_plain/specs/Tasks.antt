@@ -1,4 +1,5 @@
--- For proofs alone: what the stack of tasks of an apply has done and still owes. No public promise cites it.
+-- For proofs alone: what the stack of tasks of an apply has done and still owes. No public promise
+-- cites it.
 use Rattle.std.specs.Prelude.{◌≡◌, ℕ, ◌+◌, ◌-◌, ◌^◌, ◌<◌, ◌≤◌, List, [], ◌∷◌, min, sum_by}
 use Rattle.eqc_tree.specs.declared.operation.Op.{Op}
 use Rattle.eqc_plain.specs.Meaning.{Meaning}
@@ -26,8 +27,10 @@ pub record HasLow (m : Meaning) (op : Op) (p q v low : ℕ) : Type 0 where
 -- the tasks lead from the operation on F and G, at the bottom, to that on f and g, which is next
 abbrev pub Leads : Meaning → Op → List Task → (F G f g : ℕ) → Type 0
 Leads m op [] F G f g = (F ≡ f) × (G ≡ g)
-Leads m op (Low p q v p1 q1 ∷ ts) F G f g = (F ≡ p) × (G ≡ q) × ((h : HasExpansion m p q v p1 q1) × Leads m op ts h.p0 h.q0 f g)
-Leads m op (High p q v low ∷ ts) F G f g = (F ≡ p) × (G ≡ q) × ((h : HasLow m op p q v low) × Leads m op ts h.p1 h.q1 f g)
+Leads m op (Low p q v p1 q1 ∷ ts) F G f g = (F ≡ p) × (G ≡ q) × ((h : HasExpansion m p q v p1 q1)
+    × Leads m op ts h.p0 h.q0 f g)
+Leads m op (High p q v low ∷ ts) F G f g = (F ≡ p) × (G ≡ q) × ((h : HasLow m op p q v low)
+    × Leads m op ts h.p1 h.q1 f g)
 
 -- the tasks lead to an operation whose result is x
 pub record LeadsTo (m : Meaning) (op : Op) (ts : List Task) (F G x : ℕ) : Type 0 where
@@ -36,7 +39,8 @@ pub record LeadsTo (m : Meaning) (op : Op) (ts : List Task) (F G x : ℕ) : Type
   pub leads : Leads m op ts F G f g
   pub right : IsResult m op f g x
 
--- a bound on the operations that a task has yet to start: its high cofactors make a full tree of the variables below
+-- a bound on the operations that a task has yet to start: its high cofactors make a full tree of
+-- the variables below
 abbrev pub owed : ℕ → Task → ℕ
 owed variables (Low p q v p1 q1) = 2 ^ (variables - v) - 1
 owed variables (High p q v low) = 0
@@ -45,7 +49,8 @@ owed variables (High p q v low) = 0
 abbrev pub owed_all : ℕ → List Task → ℕ
 owed_all variables ts = sum_by (owed variables) ts
 
--- a bound on the operations that one on f and g starts: a full tree of the variables from its top one
+-- a bound on the operations that one on f and g starts: a full tree of the variables from its top
+-- one
 abbrev pub work : Meaning → ℕ → ℕ → ℕ
 work m f g = 2 ^ (m.variables - min (m.root f) (m.root g) + 1)
 

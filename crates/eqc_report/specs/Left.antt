@@ -1,5 +1,6 @@
 -- The outputs that are told as left undecided where the comparison of a pair is given up.
-use Rattle.std.specs.Prelude.{◌≡◌, ℕ, zero, suc, ◌+◌, ◌<◌, Bool, true, false, not, ◌&&◌, List, [], length, map, slice_index_or, if◌then◌else◌}
+use Rattle.std.specs.Prelude.{◌≡◌, ℕ, zero, suc, ◌+◌, ◌<◌, Bool, true, false, not, ◌&&◌, List, []}
+use Rattle.std.specs.Prelude.{length, map, slice_index_or, if◌then◌else◌}
 use Rattle.std.specs.List.{All}
 use Rattle.eqc_pair.specs.PairOf.{PairOf}
 use Rattle.eqc_pair.specs.Matched.{is_chosen}
@@ -20,7 +21,8 @@ is_compared p o = is_chosen p.chosen (output_name p o)
 abbrev pub is_left : PairOf → List Bool → ℕ → Bool
 is_left p marks o = is_compared p o && not (slice_index_or marks o false)
 
--- whether an output is compared, and its name begins and ends so, with a number between; and whether it is left, too
+-- whether an output is compared, and its name begins and ends so, with a number between; and
+-- whether it is left, too
 abbrev pub is_compared_in : PairOf → List ℕ → List ℕ → ℕ → Bool
 is_compared_in p before after o = is_compared p o && has_number before after (output_name p o)
 
@@ -39,7 +41,8 @@ count_below test (suc n) = if test n then count_below test n + 1 else count_belo
 abbrev pub count_of : PairOf → (ℕ → Bool) → ℕ
 count_of p test = count_below test (length p.first.outputs)
 
--- a word of which outputs are left, with their number, and with that of its outputs that are compared
+-- a word of which outputs are left, with their number, and with that of its outputs that are
+-- compared
 pub record IsWordLeft (p : PairOf) (marks : List Bool) (w : Word) : Type 0 where
   pub some : 0 < w.left
   pub left : w.left ≡ count_of p (is_left_in p marks w.before.items w.after.items)
@@ -47,13 +50,15 @@ pub record IsWordLeft (p : PairOf) (marks : List Bool) (w : Word) : Type 0 where
 
 -- the name of an output of which a test holds
 abbrev pub IsNameWhere : PairOf → (ℕ → Bool) → List ℕ → Type 0
-IsNameWhere p test name = (o : ℕ) × (o < length p.first.outputs) × (test o ≡ true) × (output_name p o ≡ name)
+IsNameWhere p test name = (o : ℕ) × (o < length p.first.outputs) × (test o ≡ true)
+    × (output_name p o ≡ name)
 
 -- the names that are told
 abbrev pub told : Left → List (List ℕ)
 told left = map (λ name. name.items) left.names.items
 
--- what is told of a pair: how many outputs are compared, and left; words of which some are; how many of those that are left are of none
+-- what is told of a pair: how many outputs are compared, and left; words of which some are; how
+-- many of those that are left are of none
 -- of these words, and names of such
 pub record IsTold (p : PairOf) (marks : List Bool) (left : Left) : Type 0 where
   pub compared : left.compared ≡ count_of p (is_compared p)

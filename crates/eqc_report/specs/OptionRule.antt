@@ -1,7 +1,8 @@
 -- The codes of the rules of options.
 use Rattle.std.specs.Prelude.{ℕ}
 use Rattle.eqc_report.specs.declared.option_rule.OptionRule.{OptionRule}
-use Rattle.eqc_report.specs.declared.option_rule.OptionRule.TheVariants.{Workers, Nodes, Cells, Forks, Inputs, Bytes}
+use Rattle.eqc_report.specs.declared.option_rule.OptionRule.TheVariants.{Workers, Nodes, Cells}
+use Rattle.eqc_report.specs.declared.option_rule.OptionRule.TheVariants.{Forks, Inputs, Bytes}
 
 abbrev pub option_rule_code : OptionRule → ℕ
 option_rule_code Workers = 81

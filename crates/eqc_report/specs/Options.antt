@@ -1,6 +1,9 @@
--- The ranges of a run's options: 1 to 64 workers, 1 to 1,048,574 nodes, a power of two from 1 to 1,048,576 as
--- the number of cells, at most 16 forks, at most 65,535 inputs of a main model, and at most 2,147,483,647 bytes of a netlist's text.
-use Rattle.std.specs.Prelude.{ℕ, ◌^◌, Bool, not, ◌&&◌, nat_le, ◌==◌, Option, Some, None, if◌then◌else◌}
+-- The ranges of a run's options: 1 to 64 workers, 1 to 1,048,574 nodes, a power of two from 1 to
+-- 1,048,576 as
+-- the number of cells, at most 16 forks, at most 65,535 inputs of a main model, and at most
+-- 2,147,483,647 bytes of a netlist's text.
+use Rattle.std.specs.Prelude.{ℕ, ◌^◌, Bool, not, ◌&&◌, nat_le, ◌==◌, Option, Some, None}
+use Rattle.std.specs.Prelude.{if◌then◌else◌}
 use Rattle.std.specs.List.{list_any, range_with_len}
 use Rattle.eqc_report.specs.declared.options.Options.{Options}
 

@@ -10,12 +10,18 @@ use Rattle.eqc_report.specs.Report.{DifferenceOf, ReportOf, shown, verdict_repor
 abbrev pub pair_report : Bool → PairOf → ReportOf
 pair_report every p = verdict_report (netlist_of p.first) (netlist_of p.second) (verdict_of p every)
 
--- an output that was found is there, with a value for each input of the first netlist, under which its values differ
+-- an output that was found is there, with a value for each input of the first netlist, under which
+-- its values differ
 pub record IsFoundOf (p : PairOf) (d : Difference) : Type 0 where
   pub within : d.output < length p.first.outputs
   pub size : length d.values.items ≡ length p.first.inputs
-  pub differs : has_two_values (netlist_of p.first) (netlist_of p.second) (slice_index_or p.first.outputs d.output []) d.values.items ≡ true
+  pub differs : has_two_values (netlist_of p.first) (netlist_of p.second)
+      (slice_index_or p.first.outputs d.output []) d.values.items ≡ true
 
 -- it is shown with its name and values
 abbrev pub shown_of : PairOf → Difference → DifferenceOf
-shown_of p d = shown (netlist_of p.first) (netlist_of p.second) (slice_index_or p.first.outputs d.output [], d.values.items)
+shown_of p d = shown (netlist_of p.first) (netlist_of p.second) (
+  slice_index_or p.first.outputs
+      d.output [],
+  d.values.items,
+)

@@ -8,14 +8,16 @@ use Rattle.eqc_pair.specs.Side.{side_word}
 use Rattle.eqc_compare.specs.Verdict.{NetlistOf, VerdictOf, first_value, second_value, verdict}
 use Rattle.eqc_compare.specs.Verdict as found
 
--- an output that differs, the inputs' values that show it, and its value under them in the two netlists
+-- an output that differs, the inputs' values that show it, and its value under them in the two
+-- netlists
 pub record DifferenceOf : Type 0 where
   pub output : List ℕ
   pub inputs : List (List ℕ × Bool)
   pub first : Bool
   pub second : Bool
 
--- equivalent; outputs that differ; vacuous, where no assignment of the inputs is allowed; a refusal of a side at a line
+-- equivalent; outputs that differ; vacuous, where no assignment of the inputs is allowed; a refusal
+-- of a side at a line
 -- with a code; or the code of what stopped the run
 pub data ReportOf : Type 0 where
   equivalent : ReportOf
@@ -45,12 +47,18 @@ abbrev pub text : ReportOf → List ℕ
 text equivalent = line (codes "equivalent")
 text (differs differences) = flat_map block differences
 text vacuous = line (codes "vacuous")
-text (refused side number code) = line (codes "refused " ++ side_word side ++ 32 ∷ decimal number ++ 32 ∷ decimal code)
+text (refused side number code) = line (codes "refused " ++ side_word side ++ 32 ∷ decimal number
+    ++ 32 ∷ decimal code)
 text (stopped code) = line (codes "stopped " ++ decimal code)
 
 -- an output with an assignment of the first netlist's inputs
 abbrev pub shown : NetlistOf → NetlistOf → List ℕ × List Bool → DifferenceOf
-shown f g d = record { output = d.0; inputs = zip f.inputs d.1; first = first_value f d.0 d.1; second = second_value f g d.0 d.1 }
+shown f g d = record {
+  output = d.0;
+  inputs = zip f.inputs d.1;
+  first = first_value f d.0 d.1;
+  second = second_value f g d.0 d.1;
+}
 
 -- the report on outputs that differ: none do where the list is empty
 abbrev pub differences_report : List DifferenceOf → ReportOf
@@ -61,7 +69,8 @@ abbrev pub verdict_report : NetlistOf → NetlistOf → VerdictOf → ReportOf
 verdict_report f g found.vacuous = vacuous
 verdict_report f g (found.compared ds) = differences_report (map (shown f g) ds)
 
--- the report on these outputs of two netlists whose inputs and outputs are the same sets, under an assumption, if there is
+-- the report on these outputs of two netlists whose inputs and outputs are the same sets, under an
+-- assumption, if there is
 -- one: each that differs, or the first alone
 abbrev pub comparison : Bool → NetlistOf → NetlistOf → Option NetlistOf → List (List ℕ) → ReportOf
 comparison every f g h outputs = verdict_report f g (verdict every f g h outputs)

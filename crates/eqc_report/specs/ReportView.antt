@@ -2,17 +2,25 @@
 use Rattle.std.specs.Prelude.{List, ℕ, not, map}
 use Rattle.std.specs.List.{zip}
 use Rattle.eqc_tree.specs.Stopping.{code_of}
-use Rattle.eqc_report.specs.Report.{DifferenceOf, ReportOf, equivalent, differs, vacuous, refused, stopped}
+use Rattle.eqc_report.specs.Report.{DifferenceOf, ReportOf, equivalent, differs, vacuous, refused}
+use Rattle.eqc_report.specs.Report.{stopped}
 use Rattle.eqc_report.specs.declared.report.Difference.{Difference}
 use Rattle.eqc_report.specs.declared.report.Differences.{Differences}
 use Rattle.eqc_report.specs.declared.report.Report.{Report}
-use Rattle.eqc_report.specs.declared.report.Report.TheVariants.{Equivalent, Differs, Vacuous, Refused, Stopped}
+use Rattle.eqc_report.specs.declared.report.Report.TheVariants.{Equivalent, Differs, Vacuous}
+use Rattle.eqc_report.specs.declared.report.Report.TheVariants.{Refused, Stopped}
 use Rattle.eqc_report.specs.declared.report.Status.{Status}
 use Rattle.eqc_report.specs.declared.report.Status.TheVariants as status
 
 -- an output that differs, among inputs with these names
 abbrev pub difference_of : List (List ℕ) → Difference → DifferenceOf
-difference_of inputs d = record { output = d.name; inputs = zip inputs d.values.items; first = d.first; second = not d.first }
+difference_of inputs d = record {
+  output = d.name;
+  inputs = zip inputs d.values.items;
+  first =
+      d.first;
+  second = not d.first;
+}
 
 abbrev pub differences_of : Differences → List DifferenceOf
 differences_of ds = map (difference_of ds.inputs.items) ds.each.items

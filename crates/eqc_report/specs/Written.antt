@@ -12,11 +12,12 @@ pub record IsShown (report : ReportOf) (old new : Option (List ℕ)) (status : S
   pub kind : status ≡ status_of report
 
 -- a report, or `stopped 72` in place of a refusal, was written whole, and the status is its kind
-pub record IsWritten (report : ReportOf) (old new : Option (List ℕ)) (status : Status) : Type 0 where
-  pub shown : ReportOf
-  pub one_of : (shown ≡ report) ⊎ ((shown ≡ stopped 72) × IsRefusal report)
-  pub written : Appends old new (text shown)
-  pub kind : status ≡ status_of shown
+pub record IsWritten (report : ReportOf) (old new : Option (List ℕ)) (status : Status) : Type 0
+  where
+    pub shown : ReportOf
+    pub one_of : (shown ≡ report) ⊎ ((shown ≡ stopped 72) × IsRefusal report)
+    pub written : Appends old new (text shown)
+    pub kind : status ≡ status_of shown
 
 -- a part of it was
 pub record IsCutShort (report : ReportOf) (old new : Option (List ℕ)) : Type 0 where

@@ -1,5 +1,6 @@
 -- The values of linear forms over the nodes of a graph, modulo 2^128.
-use Rattle.std.specs.Prelude.{◌≡◌, ℕ, suc, ◌+◌, ◌*◌, ◌/◌, ◌%◌, ◌^◌, ◌<◌, ◌≤◌, Bool, true, false, List, [], ◌∷◌, length}
+use Rattle.std.specs.Prelude.{◌≡◌, ℕ, suc, ◌+◌, ◌*◌, ◌/◌, ◌%◌, ◌^◌, ◌<◌, ◌≤◌, Bool, true, false}
+use Rattle.std.specs.Prelude.{List, [], ◌∷◌, length}
 use Rattle.std.specs.List.{All, sum_by}
 use Rattle.eqc_graph.specs.declared.node.Node.{Node}
 use Rattle.eqc_graph.specs.Graph.{literal_value, IsWithin, Extends}
@@ -18,7 +19,8 @@ weighed value k (c ∷ cs) = c * bit (value (2 * k)) + weighed value (suc k) cs
 
 -- the value of a linear form under an assignment
 unfoldable pub form_value : List Node → (ℕ → Bool) → Form → ℕ
-form_value nodes a f = (f.constant + weighed (literal_value nodes a) 0 f.coefficients.items) % 2 ^ 128
+form_value nodes a f = (f.constant + weighed (literal_value nodes a) 0 f.coefficients.items) % 2 ^
+    128
 
 -- what terms come to, where these are the values of literals
 abbrev pub terms_sum : (ℕ → Bool) → List Term → ℕ
@@ -37,7 +39,8 @@ IsZeroStep nodes ts = HasSum nodes ts (λ _. 0)
 abbrev pub IsOver : List Node → Form → Type 0
 IsOver nodes f = length f.coefficients.items ≤ length nodes
 
--- the new graph extends the old one, and the new form has the value there that the old one had, under each assignment
+-- the new graph extends the old one, and the new form has the value there that the old one had,
+-- under each assignment
 pub record Keeps (old new : List Node) (f g : Form) : Type 0 where
   pub extends : Extends old new
   pub over : IsOver old f → IsOver new g

@@ -7,7 +7,9 @@ pub same_of_one : (f g : Bool → Bool) → f true ≡ g true → f false ≡ g 
 same_of_one f g t n true = t
 same_of_one f g t n false = n
 
-pub same_of_two : (f g : Bool → Bool → Bool) → f true true ≡ g true true → f true false ≡ g true false → f false true ≡ g false true → f false false ≡ g false false → (p q : Bool) → f p q ≡ g p q
+pub same_of_two : (f g : Bool → Bool → Bool) → f true true ≡ g true true
+    → f true false ≡ g true false → f false true ≡ g false true → f false false ≡ g false false
+    → (p q : Bool) → f p q ≡ g p q
 same_of_two f g a b c d true true = a
 same_of_two f g a b c d true false = b
 same_of_two f g a b c d false true = c

@@ -1,5 +1,6 @@
 -- What refuted questions say of two literals.
-use Rattle.std.proofs.Common.{◌≡◌, ℕ, Bool, true, false, not, ◌&&◌, ◌||◌, List, [], ◌∷◌, refl, sym, ap, ◌∙◌}
+use Rattle.std.proofs.Common.{◌≡◌, ℕ, Bool, true, false, not, ◌&&◌, ◌||◌, List, [], ◌∷◌, refl, sym}
+use Rattle.std.proofs.Common.{ap, ◌∙◌}
 use Rattle.eqc_graph.specs.declared.node.Node.{Node}
 use Rattle.eqc_graph.specs.Graph.{literal_value}
 use Rattle.eqc_clause.specs.Clauses.{IsRefuted}
@@ -14,10 +15,14 @@ one_false false y h = refl
 
 -- the question of two literals
 pub never_both : (nodes : List Node) (x y : ℕ) → IsRefuted nodes (x ∷ y ∷ []) → AreNever nodes x y
-never_both nodes x y r = record { value = λ a. one_false (literal_value nodes a x) (literal_value nodes a y) (r.one_is_false a) }
+never_both nodes x y r = record {
+  value = λ a. one_false (literal_value nodes a x)
+      (literal_value nodes a y) (r.one_is_false a);
+}
 
 -- literals neither of which is true where the other is false
-pub equal_by_two : (nodes : List Node) (x y m n : ℕ) → AreOpposite x m → AreOpposite y n → AreNever nodes x n → AreNever nodes m y → AreEqual nodes x y
+pub equal_by_two : (nodes : List Node) (x y m n : ℕ) → AreOpposite x m → AreOpposite y n
+    → AreNever nodes x n → AreNever nodes m y → AreEqual nodes x y
 equal_by_two nodes x y m n o d first second = record {
   value = λ a.
       equal_both (literal_value nodes a x) (literal_value nodes a y)

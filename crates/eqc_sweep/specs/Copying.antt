@@ -10,7 +10,8 @@ copy_of table k = slice_index_or table k None
 
 -- each literal of a table is one of the new graph, and has the value of its node of the old one
 pub record AreCopies (old new : List Node) (table : List (Option ℕ)) : Type 0 where
-  pub each : (k c : ℕ) → copy_of table k ≡ Some c → HasValue new c (λ a. literal_value old a (2 * k))
+  pub each : (k c : ℕ) → copy_of table k ≡ Some c
+      → HasValue new c (λ a. literal_value old a (2 * k))
 
 -- a literal of the new graph has the value of one of the old graph
 abbrev pub IsCopyOf : (old new : List Node) → (l c : ℕ) → Type 0

@@ -3,7 +3,8 @@ use Rattle.std.specs.Prelude.{◌≡◌, ℕ, ◌/◌, ◌<◌, ◌&&◌, Bool, 
 use Rattle.eqc_graph.specs.declared.node.Node.{Node}
 use Rattle.eqc_graph.specs.Graph.{literal_value}
 use Rattle.eqc_sweep.specs.declared.finder.comparison.Comparison.{Comparison}
-use Rattle.eqc_sweep.specs.declared.finder.comparison.Comparison.TheVariants.{Equal, Differs, Unknown}
+use Rattle.eqc_sweep.specs.declared.finder.comparison.Comparison.TheVariants.{Equal, Differs}
+use Rattle.eqc_sweep.specs.declared.finder.comparison.Comparison.TheVariants.{Unknown}
 
 -- x and y have the same value under each assignment
 pub record AreEqual (nodes : List Node) (x y : ℕ) : Type 0 where

@@ -13,7 +13,8 @@ not_both b c = not (b && c)
 pub record Makes (f : Bool → Bool → Bool) (nodes : List Node) (x p q : ℕ) : Type 0 where
   pub first : IsWithin nodes p
   pub second : IsWithin nodes q
-  pub value : (a : ℕ → Bool) → literal_value nodes a x ≡ f (literal_value nodes a p) (literal_value nodes a q)
+  pub value : (a : ℕ → Bool) → literal_value nodes a x ≡ f (literal_value nodes a p)
+      (literal_value nodes a q)
 
 -- the gate of x
 abbrev pub IsGate : List Node → ℕ → Gate → Type 0
@@ -25,12 +26,16 @@ IsGate nodes x Other = ⊤
 -- y is the complement of x
 pub record AreOpposite (x y : ℕ) : Type 0 where
   pub node : y / 2 ≡ x / 2
-  pub value : (nodes : List Node) (a : ℕ → Bool) → literal_value nodes a y ≡ not (literal_value nodes a x)
+  pub value : (nodes : List Node) (a : ℕ → Bool) → literal_value nodes a y
+      ≡ not (literal_value nodes a x)
 
 -- y is false wherever p and q are true
 pub record Excludes (p q y : ℕ) : Type 0 where
-  pub value : (nodes : List Node) (a : ℕ → Bool) → ((literal_value nodes a p && literal_value nodes a q) && literal_value nodes a y) ≡ false
+  pub value : (nodes : List Node) (a : ℕ → Bool)
+      → ((literal_value nodes a p && literal_value nodes a q) && literal_value nodes a y) ≡ false
 
 -- y is true wherever p and q are
 pub record Implies (p q y : ℕ) : Type 0 where
-  pub value : (nodes : List Node) (a : ℕ → Bool) → ((literal_value nodes a p && literal_value nodes a q) && literal_value nodes a y) ≡ (literal_value nodes a p && literal_value nodes a q)
+  pub value : (nodes : List Node) (a : ℕ → Bool)
+      → ((literal_value nodes a p && literal_value nodes a q) && literal_value nodes a y)
+      ≡ (literal_value nodes a p && literal_value nodes a q)

@@ -24,8 +24,11 @@ pub record StandsFor (nodes : List Node) (n : Node) (r : Reduced) : Type 0 where
 
 -- a rule for the conjunction of y with x, which f makes of p and q
 abbrev pub HoldsWith : (Bool → Bool → Bool) → (x p q y : ℕ) → Option Reduced → Type 0
-HoldsWith f x p q y r = (nodes : List Node) → IsGraph nodes → IsWithin nodes x → IsWithin nodes y → Makes f nodes x p q → IfSome r (StandsFor nodes (And x y))
+HoldsWith f x p q y r = (nodes : List Node) → IsGraph nodes → IsWithin nodes x → IsWithin nodes y
+    → Makes f nodes x p q → IfSome r (StandsFor nodes (And x y))
 
 -- a rule for the conjunction of x, which f makes of p and q, with y, which g makes of r and s
 abbrev pub HoldsFor : (f g : Bool → Bool → Bool) → (x p q y r s : ℕ) → Option Reduced → Type 0
-HoldsFor f g x p q y r s found = (nodes : List Node) → IsGraph nodes → IsWithin nodes x → IsWithin nodes y → Makes f nodes x p q → Makes g nodes y r s → IfSome found (StandsFor nodes (And x y))
+HoldsFor f g x p q y r s found = (nodes : List Node) → IsGraph nodes → IsWithin nodes x
+    → IsWithin nodes y → Makes f nodes x p q → Makes g nodes y r s
+    → IfSome found (StandsFor nodes (And x y))

@@ -21,14 +21,17 @@ second_source request = path_or (first_source request) request.second
 -- `eqc: warning: SOURCE: model 'MODEL' is compared, which model 'CONTAINER' contains`
 abbrev pub warning_line : List ℕ → Contained → List ℕ
 warning_line source contained =
-    codes "eqc: warning: " ++ source ++ codes ": model '" ++ contained.model ++ codes "' is compared, which model '" ++ contained.container ++ codes "' contains" ++ 10 ∷ []
+    codes "eqc: warning: " ++ source ++ codes ": model '" ++ contained.model
+    ++ codes "' is compared, which model '" ++ contained.container ++ codes "' contains" ++ 10
+    ∷ []
 
 abbrev pub warning_lines : List ℕ → Option Contained → List ℕ
 warning_lines source None = []
 warning_lines source (Some contained) = warning_line source contained
 
 abbrev pub warnings_text : Request → Warnings → List ℕ
-warnings_text request warnings = warning_lines (first_source request) warnings.first ++ warning_lines (second_source request) warnings.second
+warnings_text request warnings = warning_lines (first_source request) warnings.first
+    ++ warning_lines (second_source request) warnings.second
 
 -- a text was told, or a part of it, and nothing where it is empty
 pub record IsToldOf (text : List ℕ) (old new : Option (List ℕ)) : Type 0 where

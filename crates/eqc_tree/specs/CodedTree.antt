@@ -1,4 +1,5 @@
--- Trees and references as lists of numbers, so that a value that no code holds can carry them. Helpers of proofs: the one promise here is `ReadsBack`.
+-- Trees and references as lists of numbers, so that a value that no code holds can carry them.
+-- Helpers of proofs: the one promise here is `ReadsBack`.
 use Rattle.std.specs.Prelude.{◌≡◌, ℕ, zero, suc, List, [], ◌∷◌, refl}
 use Rattle.std.proofs.Common.{◌∙◌, ap}
 use Rattle.std.specs.Coded.{Coded, code_by, coded_ℕ, coded_list, coded×}
@@ -34,10 +35,12 @@ first_of_all [] = False
 first_of_all (t ∷ ts) = t
 
 -- reading a spelling adds its tree
-pub read-spelled : (t : Tree) (rest : List ℕ) (ts : List Tree) → read (spelled t rest) ts ≡ read rest (t ∷ ts)
+pub read-spelled : (t : Tree) (rest : List ℕ) (ts : List Tree) → read (spelled t rest) ts
+    ≡ read rest (t ∷ ts)
 read-spelled False rest ts = refl
 read-spelled True rest ts = refl
-read-spelled (Node v l h) rest ts = read-spelled l (spelled h (suc (suc v) ∷ rest)) ts ∙ read-spelled h (suc (suc v) ∷ rest) (l ∷ ts)
+read-spelled (Node v l h) rest ts = read-spelled l (spelled h (suc (suc v) ∷ rest)) ts
+    ∙ read-spelled h (suc (suc v) ∷ rest) (l ∷ ts)
 
 -- each tree is read back from its spelling
 abbrev pub ReadsBack : Type 0
@@ -45,8 +48,10 @@ ReadsBack = (t : Tree) → first_of_all (read (spelled t []) []) ≡ t
 
 -- trees as data
 abbrev pub coded_tree : Coded Tree
-coded_tree = code_by (List ℕ) (coded_list coded_ℕ) (λ t. spelled t []) (λ ns. first_of_all (read ns [])) (λ t. ap first_of_all (read-spelled t [] []))
+coded_tree = code_by (List ℕ) (coded_list coded_ℕ) (λ t. spelled t [])
+    (λ ns. first_of_all (read ns [])) (λ t. ap first_of_all (read-spelled t [] []))
 
 -- references with their trees as data
 abbrev pub coded_entry : Coded Entry
-coded_entry = code_by (ℕ × Tree) (coded× coded_ℕ coded_tree) (λ e. (e.number, e.tree)) (λ p. record { number = p.0; tree = p.1 }) (λ _. refl)
+coded_entry = code_by (ℕ × Tree) (coded× coded_ℕ coded_tree) (λ e. (e.number, e.tree))
+    (λ p. record { number = p.0; tree = p.1 }) (λ _. refl)

@@ -1,7 +1,8 @@
 -- The layout of the two packed words: a node, and a cached result.
 use Rattle.std.specs.Prelude.{ℕ, ◌+◌, ◌*◌, ◌/◌, ◌%◌, ◌^◌}
 
--- the word of a node: the variable in bits 40 to 55, the low child in 20 to 39, the high child in 0 to 19
+-- the word of a node: the variable in bits 40 to 55, the low child in 20 to 39, the high child in 0
+-- to 19
 abbrev pub node_word : (variable low high : ℕ) → ℕ
 node_word variable low high = variable * 2 ^ 40 + low * 2 ^ 20 + high
 
@@ -17,7 +18,8 @@ node_low word = word / 2 ^ 20 % 2 ^ 20
 abbrev pub node_high : ℕ → ℕ
 node_high word = word % 2 ^ 20
 
--- the word of a cached result: the tag in bits 60 to 63, the operands in 40 to 59 and 20 to 39, the result in 0 to 19
+-- the word of a cached result: the tag in bits 60 to 63, the operands in 40 to 59 and 20 to 39, the
+-- result in 0 to 19
 abbrev pub cell_word : (tag first second found : ℕ) → ℕ
 cell_word tag first second found = tag * 2 ^ 60 + first * 2 ^ 40 + second * 2 ^ 20 + found
 

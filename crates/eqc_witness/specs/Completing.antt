@@ -12,5 +12,6 @@ pub record Completes (n : ℕ) (test : List Bool → Bool) (first values : List 
 -- one of them, or that there is none
 abbrev pub IsCompletion : ℕ → (List Bool → Bool) → List Bool → Completion → Type 0
 IsCompletion n test first (Found values) = Completes n test first values.items
-IsCompletion n test first Nothing = (rest : List Bool) → length (first ++ rest) ≡ n → test (first ++ rest) ≡ false
+IsCompletion n test first Nothing = (rest : List Bool) → length (first ++ rest) ≡ n
+    → test (first ++ rest) ≡ false
 IsCompletion n test first Unknown = ⊤

@@ -1,5 +1,6 @@
 -- The command line as `clap` takes it, and what its words ask for.
-use Rattle.std.specs.Prelude.{◌≡◌, ℕ, Bool, true, false, None, pos, List, [], ◌∷◌, map, find, codes, Option, Some, option_map}
+use Rattle.std.specs.Prelude.{◌≡◌, ℕ, Bool, true, false, None, pos, List, [], ◌∷◌, map, find, codes}
+use Rattle.std.specs.Prelude.{Option, Some, option_map}
 use Rattle.std.specs.Option.{option_map_or}
 use Rattle.std.specs.Str.{bytes_eq}
 use Rattle.std.specs.Str.Parse.{digits_value, without_leading_plus}
@@ -56,7 +57,8 @@ with_numbers a =
     (number_rule (codes "inputs") (codes "2048")))
     (number_rule (codes "bytes") (codes "16777216"))
 
--- the paths of the order text and the assumption, whether each difference is wanted, names of outputs, and the names of two models
+-- the paths of the order text and the assumption, whether each difference is wanted, names of
+-- outputs, and the names of two models
 abbrev pub with_choices : App → App
 with_choices a =
     with_rule
@@ -68,7 +70,8 @@ with_choices a =
     (text_rule (codes "first-model")))
     (text_rule (codes "second-model"))
 
--- whether to explain, whether to tell where differences begin, whether to show how far the run is, and at most two paths
+-- whether to explain, whether to tell where differences begin, whether to show how far the run is,
+-- and at most two paths
 abbrev pub with_files : App → App
 with_files a =
     with_rule
@@ -93,7 +96,8 @@ number_of name rows = option_map (λ t. digits_value 10 (without_leading_plus t)
 
 -- all values of an option, of all its uses
 abbrev pub all_of : Text → List Row → List Text
-all_of name rows = option_map_or (λ (r : Row). r.values) (find (λ (r : Row). bytes_eq r.id name) rows) []
+all_of name rows = option_map_or (λ (r : Row). r.values) (find (λ (r : Row). bytes_eq r.id name)
+    rows) []
 
 -- what the matches of a command line ask for
 pub record IsAsked (rows : List Row) (request : Request) : Type 0 where
@@ -111,7 +115,9 @@ pub record IsAsked (rows : List Row) (request : Request) : Type 0 where
   pub order : option_map (λ s. s.now) request.order ≡ first_of (codes "order") rows
   pub assume : option_map (λ s. s.now) request.assume ≡ first_of (codes "assume") rows
   pub outputs : map (λ s. s.now) request.outputs.items ≡ all_of (codes "output") rows
-  pub first_model : option_map (λ s. s.now) request.first_model ≡ first_of (codes "first-model") rows
-  pub second_model : option_map (λ s. s.now) request.second_model ≡ first_of (codes "second-model") rows
+  pub first_model : option_map (λ s. s.now) request.first_model ≡ first_of (codes "first-model")
+      rows
+  pub second_model : option_map (λ s. s.now) request.second_model ≡ first_of (codes "second-model")
+      rows
   pub first : option_map (λ s. s.now) request.first ≡ first_of (codes "first") rows
   pub second : option_map (λ s. s.now) request.second ≡ first_of (codes "second") rows

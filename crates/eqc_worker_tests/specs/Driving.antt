@@ -19,7 +19,8 @@ references_of x refs = sum_by (λ (r : Ref). cond (eqb r.number x) 1 0) refs
 abbrev pub AreCovered : List Ref → List ℕ → Type 0
 AreCovered refs held = (x : ℕ) → 2 ≤ x → references_of x refs ≤ times x held
 
--- how far a worker is: the phase of its first announcement word, its scan, and that the other words are idle and it has neither a draft nor a stripe
+-- how far a worker is: the phase of its first announcement word, its scan, and that the other words
+-- are idle and it has neither a draft nor a stripe
 pub record IsAt (phase : Phase) (position : ℕ) (v : View) : Type 0 where
   pub four_words : v.sizes.announcements ≡ 4
   pub phases : v.phases ≡ phase ∷ Idle ∷ Idle ∷ Idle ∷ []
@@ -28,9 +29,10 @@ pub record IsAt (phase : Phase) (position : ℕ) (v : View) : Type 0 where
   pub no_hand : v.hand ≡ None
 
 -- a worker is as its driver has it
-pub record IsDriven (phase : Phase) (position : ℕ) (references : List Ref) (s : Standing) : Type 0 where
-  pub stands : IsAt phase position s.known.core
-  pub covered : AreCovered references s.known.core.held
+pub record IsDriven (phase : Phase) (position : ℕ) (references : List Ref) (s : Standing) : Type 0
+  where
+    pub stands : IsAt phase position s.known.core
+    pub covered : AreCovered references s.known.core.held
 
 -- an entry of the name x alone was counted up: the worker holds x thrice more
 pub record IsTriple (x : ℕ) (filled : Filled) (old new : Standing) : Type 0 where

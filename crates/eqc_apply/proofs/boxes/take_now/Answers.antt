@@ -9,7 +9,8 @@ use Rattle.eqc_apply.proofs.boxes.take_now.Goals as goal
 pub swap_box-requires : goal.swap_box-requires
 swap_box-requires c =
     let few = c.requires.few in
-    come_may [] (looked c.args.worker.now c.look_box.new.self c.look_box.ensures.step) c.args.b Empty c.requires.ready c.requires.there few (omega arith) tt
+    come_may [] (looked c.args.worker.now c.look_box.new.self c.look_box.ensures.step) c.args.b
+    Empty c.requires.ready c.requires.there few (omega arith) tt
 
 pub returns : goal.returns
 returns c =
@@ -18,9 +19,11 @@ returns c =
     let look = c.look_box.ensures.step in
     record {
       came = after_still (looked c.args.worker.now c.look_box.new.self look)
-          (swaps out Empty c.look_box.new.self c.swap_box.new.self e.whole.1 tt (λ x. omega (arith, times-nil x)) e.step);
+          (swaps out Empty c.look_box.new.self c.swap_box.new.self e.whole.1 tt
+          (λ x. omega (arith, times-nil x)) e.step);
       right = e.right;
-      marks = marks_trans (look_marks c.args.worker.now c.look_box.new.self look) (swap_marks out Empty c.look_box.new.self c.swap_box.new.self e.whole.1 e.step);
+      marks = marks_trans (look_marks c.args.worker.now c.look_box.new.self look)
+          (swap_marks out Empty c.look_box.new.self c.swap_box.new.self e.whole.1 e.step);
       noted = swap_notes out Empty c.look_box.new.self c.swap_box.new.self e.whole.1 e.step;
       whole = e.whole.1;
     }

@@ -9,6 +9,8 @@ invariant-loop-i g l = record {
   home : MayHome l.worker.known.core l.stripe l.map.entries;
   left : l.i ≤ length l.map.entries;
   few : l.taken + l.i ≤ 2 ^ 20;
-  changes : Changes [] [] l.worker.known.core.hand l.fn.worker.known.core.draft l.fn.worker l.worker;
-  tries : (n taken : ℕ) → IsBetween [] n l.stripe taken l.fn.worker.known → IsTrying [] n l.stripe (taken + l.taken) l.i l.map.entries l.worker.known;
+  changes : Changes [] [] l.worker.known.core.hand l.fn.worker.known.core.draft l.fn.worker
+      l.worker;
+  tries : (n taken : ℕ) → IsBetween [] n l.stripe taken l.fn.worker.known
+      → IsTrying [] n l.stripe (taken + l.taken) l.i l.map.entries l.worker.known;
 }

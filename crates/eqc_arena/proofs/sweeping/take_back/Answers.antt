@@ -6,7 +6,11 @@ pub sweep-requires-clause-rest : goal.sweep-requires-clause-rest
 sweep-requires-clause-rest g c = begins c.requires.rest c.empty_cells.ensures.changes
 
 pub sweep-requires-clause-room : goal.sweep-requires-clause-room
-sweep-requires-clause-room g c = let room = c.requires.room in omega (arith, lengths_now c.empty_cells.ensures.changes)
+sweep-requires-clause-room g c = let room = c.requires.room in
+    omega (arith, lengths_now c.empty_cells.ensures.changes)
 
 pub returns-in-Share : goal.returns-in-Share
-returns-in-Share g c = record { changes = still c.empty_cells.ensures.changes (here c.empty_cells.ensures.changes c.sweep.ensures.changes) }
+returns-in-Share g c = record {
+  changes = still c.empty_cells.ensures.changes
+      (here c.empty_cells.ensures.changes c.sweep.ensures.changes);
+}

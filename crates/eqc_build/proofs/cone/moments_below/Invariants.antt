@@ -5,7 +5,8 @@ use Rattle.eqc_build.proofs.ConeLaws.{IsNotedFrom}
 use Rattle.eqc_build.proofs.cone.moments_below.Given as goal
 
 abbrev pub invariant-loop-step : goal.invariant-loop-step
-invariant-loop-step l = IsHeap nat_cmp (heap_items l.heap) × IsNotedFrom l.steps l.goals (moment_in l.last) (heap_items l.heap) l.below
+invariant-loop-step l = IsHeap nat_cmp (heap_items l.heap)
+    × IsNotedFrom l.steps l.goals (moment_in l.last) (heap_items l.heap) l.below
 
 abbrev pub decreases-loop-step : goal.decreases-loop-step
 decreases-loop-step l = l.below

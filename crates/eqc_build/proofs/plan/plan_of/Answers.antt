@@ -10,7 +10,15 @@ returns-clause-turns c =
         some = omega arith;
         within = goals_within c.args.steps o lawful inside;
         moments = c.in_ok-last.ensures.last;
-        ends = c.in_ok-last.ensures.roots o (rw (c.outputs.ensures, c.first.ensures, c.pair-pair.ensures) inside) unmarked;
+        ends = c.in_ok-last.ensures.roots o (rw (
+          c.outputs.ensures,
+          c.first.ensures,
+          c.pair-pair.ensures,
+        ) inside) unmarked;
       };
-      few = omega (arith, lawful.lawful.first_flat.few_outputs, lawful.lawful.first_flat.few_signals);
+      few = omega (
+        arith,
+        lawful.lawful.first_flat.few_outputs,
+        lawful.lawful.first_flat.few_signals,
+      );
     })

@@ -3,7 +3,11 @@ use Rattle.eqc_build.proofs.steps.driver_in.Goals as goal
 
 pub returns-in-Some : goal.returns-in-Some
 returns-in-Some c =
-    let one = c.requires.tables.each c.in-Cover.rows (record { columns = c.len.result; table = c.in-Some.table }) c.in-Some.ensures in (
+    let one = c.requires.tables.each c.in-Cover.rows (record {
+      columns = c.len.result;
+      table =
+          c.in-Some.table;
+    }) c.in-Some.ensures in (
       c.in-Cover.columns,
       c.in-Cover.rows,
       sym (rw c.steps.ensures.steps at c.in-Cover.ensures),

@@ -5,4 +5,5 @@ use Rattle.eqc_build.proofs.wanted.open_missing.Given as goal
 
 abbrev pub invariant-loop-k : goal.invariant-loop-k
 invariant-loop-k g l =
-    IsHeap nat_cmp (heap_items l.heap) × AreOpened l.table l.steps (heap_items l.initial.heap) (heap_items l.heap) l.k × AreLasting l.initial.until.items l.until.items l.steps l.k l.at
+    IsHeap nat_cmp (heap_items l.heap) × AreOpened l.table l.steps (heap_items l.initial.heap)
+    (heap_items l.heap) l.k × AreLasting l.initial.until.items l.until.items l.steps l.k l.at

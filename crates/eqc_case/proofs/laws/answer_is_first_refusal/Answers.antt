@@ -1,4 +1,5 @@
-use Rattle.eqc_case.proofs.AnswerProofs.{answer_is_first_refusal, answer_compares, checks_accept, answer_is_no_stop}
+use Rattle.eqc_case.proofs.AnswerProofs.{answer_is_first_refusal, answer_compares, checks_accept}
+use Rattle.eqc_case.proofs.AnswerProofs.{answer_is_no_stop}
 use Rattle.eqc_case.proofs.laws.answer_is_first_refusal.Goals as goal
 
 pub returns-clause-refused : goal.returns-clause-refused

@@ -9,7 +9,8 @@ invariant-reads g l = record {
   room : 0 < vec_len l.block;
   open_stage : l.stage ≡ Open;
   few : l.reader.reads ≤ vec_len l.text;
-  read : Consumes (g.R.Read.remaining l.fn.reader.reader) (g.R.Read.remaining l.reader.reader) l.text.items;
+  read : Consumes (g.R.Read.remaining l.fn.reader.reader) (g.R.Read.remaining l.reader.reader)
+      l.text.items;
 }
 
 abbrev pub decreases-reads : goal.decreases-reads

@@ -4,4 +4,8 @@ use Rattle.eqc_class.specs.Numbering.{rows_until}
 use Rattle.eqc_class.proofs.row_set.rows_named.Given as goal
 
 abbrev pub invariant-loop-s : goal.invariant-loop-s
-invariant-loop-s l = record { within : l.count ≤ length l.flat.rows; small : l.count ≤ 4294967296; named : (t : ℕ) → t < l.s → rows_until (driver_at l.flat t) ≤ l.count }
+invariant-loop-s l = record {
+  within : l.count ≤ length l.flat.rows;
+  small : l.count ≤ 4294967296;
+  named : (t : ℕ) → t < l.s → rows_until (driver_at l.flat t) ≤ l.count;
+}

@@ -10,9 +10,21 @@ returns-then-ne c =
     (c.get.ensures ∙ (ap (λ l. get_or l c.loop-k.k []) same ∙ sym c.get-in-loop-k.ensures))))
 
 pub loop-k-preserved : goal.loop-k-preserved
-loop-k-preserved c = rows_more c.args.rows.now c.args.others.now c.loop-k.k c.get.result.now c.get-in-loop-k.result.now c.loop-k.invariant c.get.ensures c.get-in-loop-k.ensures c.if-ne.ensures
+loop-k-preserved c = rows_more c.args.rows.now c.args.others.now c.loop-k.k c.get.result.now
+    c.get-in-loop-k.result.now c.loop-k.invariant c.get.ensures c.get-in-loop-k.ensures
+    c.if-ne.ensures
 
 pub returns : goal.returns
 returns c =
-    sym (rows_same c.args.rows.now c.args.others.now (omega (arith, c.if-len.false, c.len.ensures, c.len-2.ensures))
-    (λ j less. c.loop-k.invariant j (omega (arith, less, c.len-k-end.ensures, c.loop-k-test.false))))
+    sym (rows_same c.args.rows.now c.args.others.now (omega (
+      arith,
+      c.if-len.false,
+      c.len.ensures,
+      c.len-2.ensures,
+    ))
+    (λ j less. c.loop-k.invariant j (omega (
+      arith,
+      less,
+      c.len-k-end.ensures,
+      c.loop-k-test.false,
+    ))))

@@ -11,6 +11,8 @@ loop-l-preserved c =
     let clause = c.args.clause.now in
     let i = c.loop-l.l-index in
     elim c.if-not-is_false.branch [
-      | then-not-is_false+else-is_some w ↦ one_kept clause c.args.falsified.now i c.loop-l.left _ c.loop-l-test.true (sym w.if-is_some.ensures) w.left-is c.loop-l.invariant
-      | else-not-is_false w ↦ false_kept clause c.args.falsified.now i c.loop-l.left _ c.loop-l-test.true (c.is_false.ensures w.if-not-is_false.false) w.left-is c.loop-l.invariant
+      | then-not-is_false+else-is_some w ↦ one_kept clause c.args.falsified.now i c.loop-l.left _
+          c.loop-l-test.true (sym w.if-is_some.ensures) w.left-is c.loop-l.invariant
+      | else-not-is_false w ↦ false_kept clause c.args.falsified.now i c.loop-l.left _
+          c.loop-l-test.true (c.is_false.ensures w.if-not-is_false.false) w.left-is c.loop-l.invariant
     ]

@@ -8,8 +8,10 @@ use Rattle.eqc_command.proofs.start.compare.Goals as goal
 
 pub returns-in-Ok-finished : goal.returns-in-Ok-finished
 returns-in-Ok-finished g c =
-    let run : IsRun (source_remaining g.R.Read.remaining g.RT.File.Read.remaining) c.given_by-given.result
-    (g.W.Write.contents c.args.out.now) (g.W.Write.contents c.if-request.out) c.if-request.finished =
+    let run : IsRun (source_remaining g.R.Read.remaining g.RT.File.Read.remaining)
+    c.given_by-given.result
+    (g.W.Write.contents c.args.out.now) (g.W.Write.contents c.if-request.out)
+    c.if-request.finished =
     elim c.if-request.branch [
       | then-request w ↦ rw (w.finished-is, w.out-is) w.run_shown-finished.ensures
       | else-request w ↦ rw (w.finished-is, w.out-is) (record {
@@ -35,8 +37,10 @@ returns-in-Ok-finished g c =
 
 pub returns : goal.returns
 returns g c =
-    let run : IsRun (source_remaining g.R.Read.remaining g.RT.File.Read.remaining) c.given_by-given.result
-    (g.W.Write.contents c.args.out.now) (g.W.Write.contents c.if-request.out) c.if-request.finished =
+    let run : IsRun (source_remaining g.R.Read.remaining g.RT.File.Read.remaining)
+    c.given_by-given.result
+    (g.W.Write.contents c.args.out.now) (g.W.Write.contents c.if-request.out)
+    c.if-request.finished =
     elim c.if-request.branch [
       | then-request w ↦ rw (w.finished-is, w.out-is) w.run_shown-finished.ensures
       | else-request w ↦ rw (w.finished-is, w.out-is) (record {
@@ -47,8 +51,11 @@ returns g c =
         memory = w.run_explained-finished.ensures.memory;
       })
     ] in
-    run_failed g.R.Read.remaining g.RT.File.Read.remaining c.args.request.now c.args.input (g.W.Write.contents c.args.out.now)
-    (g.W.Write.contents c.if-request.out) (g.E.Write.contents c.args.err.now) (g.E.Write.contents c.explain-in-Err-finished.new.err)
+    run_failed g.R.Read.remaining g.RT.File.Read.remaining c.args.request.now c.args.input
+    (g.W.Write.contents c.args.out.now)
+    (g.W.Write.contents c.if-request.out) (g.E.Write.contents c.args.err.now)
+    (g.E.Write.contents c.explain-in-Err-finished.new.err)
     c.in-Err-finished.fault c.in-Ok.sources c.in-Ok.ensures
-    (λ e. rw c.given_by-given.ensures at (run.write (c.in-Err-finished.is ∙ ap Err e))) (λ e. run.read (c.in-Err-finished.is ∙ ap Err e))
+    (λ e. rw c.given_by-given.ensures at (run.write (c.in-Err-finished.is ∙ ap Err e)))
+    (λ e. run.read (c.in-Err-finished.is ∙ ap Err e))
     (rw c.in-Err-finished.is at run.memory) c.explain-in-Err-finished.ensures

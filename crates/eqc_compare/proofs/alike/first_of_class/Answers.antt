@@ -10,6 +10,13 @@ loop-k-preserved c =
     let k = c.loop-k.k in
     let inside : get_or row k 0 < c.args.count = c.requires.within k c.loop-k-test.true in
     let read : c.index.result.now ≡ get_or firsts (get_or row k 0) 0 = c.index.ensures
-    ∙ get_or_default firsts (get_or row k 0) c.index.result.now 0 (omega (arith, inside, c.loop-k.invariant.classes)) in
-    let by = lesser (get_or firsts (get_or row k 0) 0) k c.min-first.result (c.min-first.ensures ∙ ap (λ m. min m k) read) in
-    rw c.in_ok-push.ensures.items (met_more row firsts c.loop-k.places.items c.args.count k c.min-first.result (omega (arith, c.requires.few, c.loop-k-test.true)) inside by c.loop-k.invariant)
+    ∙ get_or_default firsts (get_or row k 0) c.index.result.now 0 (omega (
+      arith,
+      inside,
+      c.loop-k.invariant.classes,
+    )) in
+    let by = lesser (get_or firsts (get_or row k 0) 0) k c.min-first.result (c.min-first.ensures
+    ∙ ap (λ m. min m k) read) in
+    rw c.in_ok-push.ensures.items (met_more row firsts c.loop-k.places.items c.args.count k
+    c.min-first.result (omega (arith, c.requires.few, c.loop-k-test.true)) inside by
+    c.loop-k.invariant)

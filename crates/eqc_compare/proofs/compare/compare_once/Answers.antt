@@ -6,16 +6,19 @@ compare_turn-found-requires g c = record {
   within = c.requires.output;
   turn = c.requires.turn;
   kept =
-      none_kept g.D.References.entry c.args.plan.now.steps.pair _ c.for_few-kept.result.table c.requires.variables
+      none_kept g.D.References.entry c.args.plan.now.steps.pair _ c.for_few-kept.result.table
+      c.requires.variables
       c.for_few-kept.ensures.size c.for_few-kept.ensures.none;
 }
 
 pub give_back-requires : goal.give_back-requires
 give_back-requires g c =
     let kept =
-    none_kept g.D.References.entry c.args.plan.now.steps.pair _ c.for_few-kept.result.table c.requires.variables
+    none_kept g.D.References.entry c.args.plan.now.steps.pair _ c.for_few-kept.result.table
+    c.requires.variables
     c.for_few-kept.ensures.size c.for_few-kept.ensures.none in
-    (moved_kept g.D.References.entry c.args.plan.now.steps.pair _ _ c.for_few-kept.result.table _ kept c.compare_turn-found.ensures.moves).owned
+    (moved_kept g.D.References.entry c.args.plan.now.steps.pair _ _ c.for_few-kept.result.table _
+    kept c.compare_turn-found.ensures.moves).owned
 
 pub returns-clause-kept : goal.returns-clause-kept
 returns-clause-kept g c =

@@ -7,4 +7,5 @@ pub returns : goal.returns
 returns c =
     let p = c.args.pair.now in
     let none = none_lent p c.assumption.result c.assumption.ensures c.if-is_some.ensures in
-    λ every. compared_outcome p every false c.new.result (without_assumption p none) refl (rw c.new.ensures.items (nothing_told p every (c.if-not-are_all_settled.ensures refl)))
+    λ every. compared_outcome p every false c.new.result (without_assumption p none) refl
+    (rw c.new.ensures.items (nothing_told p every (c.if-not-are_all_settled.ensures refl)))

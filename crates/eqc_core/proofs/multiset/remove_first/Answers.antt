@@ -8,10 +8,12 @@ remove-requires c = let b = c.in-Some.ensures.within in let e = c.deref.ensures.
 
 pub returns-in-Some : goal.returns-in-Some
 returns-in-Some c =
-    let p = ap (position_from (λ y. y == c.args.x) 0) (sym c.deref.ensures.value) ∙ sym c.in-Some.ensures.value in
+    let p = ap (position_from (λ y. y == c.args.x) 0) (sym c.deref.ensures.value)
+    ∙ sym c.in-Some.ensures.value in
     c.remove.ensures.items ∙ removed c.args.x c.args.names.now.items c.in-Some.i p
 
 pub returns-in_default : goal.returns-in_default
 returns-in_default c =
-    let p = ap (position_from (λ y. y == c.args.x) 0) (sym c.deref.ensures.value) ∙ sym c.in_default.ensures.value in
+    let p = ap (position_from (λ y. y == c.args.x) 0) (sym c.deref.ensures.value)
+    ∙ sym c.in_default.ensures.value in
     sym (absent c.args.x c.args.names.now.items p)

@@ -14,5 +14,7 @@ pub returns : goal.returns
 returns c =
     let ps = c.args.phases.now in (
       (λ t. absurd (cc)),
-      (λ q. absurd (c.loop-phase.invariant q.0 (let lt = at_below ps q.0 (Confirmed c.args.x) q.1 in let past = c.loop-phase-test.false in omega arith) (at_get ps q.0 (Confirmed c.args.x) Idle q.1))),
+      (λ q. absurd (c.loop-phase.invariant q.0 (let lt = at_below ps q.0 (Confirmed c.args.x) q.1 in
+          let past = c.loop-phase-test.false in omega arith) (at_get ps q.0 (Confirmed c.args.x)
+          Idle q.1))),
     )

@@ -15,7 +15,8 @@ pub returns : goal.returns
 returns c =
     let ps = c.args.phases.now in (
       (λ t k p at.
-          let lt : k < c.loop-phase.phase-index = (let b = at_below ps k p at in let past = c.loop-phase-test.false in omega arith) in
+          let lt : k < c.loop-phase.phase-index = (let b = at_below ps k p at in let past =
+          c.loop-phase-test.false in omega arith) in
           subst (λ (q : Phase). IsQuiet q) (at_get ps k p Idle at) (c.loop-phase.invariant k lt)),
       (λ all. refl),
     )

@@ -8,6 +8,8 @@ use Rattle.eqc_core.proofs.playback.run.Given as goal
 abbrev pub invariant-loop-i : goal.invariant-loop-i
 invariant-loop-i l = record {
   kept : IsKept l.machine;
-  runs : (t : State) → Runs (state_of l.machine) (drop l.i l.events) t → Runs (state_of l.start) l.events t;
-  stops : (k : ℕ) → IsStoppedAt (state_of l.machine) (drop l.i l.events) k → IsStoppedAt (state_of l.start) l.events (l.i + k);
+  runs : (t : State) → Runs (state_of l.machine) (drop l.i l.events) t
+      → Runs (state_of l.start) l.events t;
+  stops : (k : ℕ) → IsStoppedAt (state_of l.machine) (drop l.i l.events) k
+      → IsStoppedAt (state_of l.start) l.events (l.i + k);
 }

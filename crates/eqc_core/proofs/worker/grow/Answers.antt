@@ -12,7 +12,9 @@ short-preserved c = λ z.
     let l = length-map ws (view_of z) in
     let short = c.short-test.true in
     let e = ap (map (view_of z)) c.in_ok-push.ensures.items
-    ∙ (map-append (view_of z) ws (c.absent.result ∷ []) ∙ ap (λ u. vs ++ u ∷ []) (absent_is z c.absent.result c.absent.ensures.active c.absent.ensures.over)) in
+    ∙ (map-append (view_of z) ws (c.absent.result ∷ [])
+    ∙ ap (λ u. vs ++ u ∷ []) (absent_is z c.absent.result c.absent.ensures.active
+    c.absent.ensures.over)) in
     ap (λ l. grown l c.args.n) e ∙ (grown_push vs c.args.n (omega arith) ∙ c.short.invariant z)
 
 pub returns : goal.returns

@@ -12,7 +12,10 @@ pub overflow_shl-result-2 : goal.overflow_shl-result-2
 overflow_shl-result-2 c = few_places c.args.j c.requires
 
 pub returns-then-value : goal.returns-then-value
-returns-then-value c = high_cofactor c.args.table c.column_table-others.result c.args.j _ c.args.value c.column_table-others.ensures (omega arith) (places_of c.args.j c.requires) c.if-value.true
+returns-then-value c = high_cofactor c.args.table c.column_table-others.result c.args.j _
+    c.args.value c.column_table-others.ensures (omega arith) (places_of c.args.j c.requires)
+    c.if-value.true
 
 pub returns : goal.returns
-returns c = low_cofactor c.args.table c.column_table-others.result c.args.j _ c.args.value c.column_table-others.ensures (omega arith) (places_of c.args.j c.requires) c.if-value.false
+returns c = low_cofactor c.args.table c.column_table-others.result c.args.j _ c.args.value
+    c.column_table-others.ensures (omega arith) (places_of c.args.j c.requires) c.if-value.false

@@ -7,7 +7,9 @@ loop-j-init c = row_begins c.args.columns c.args.row.now c.requires
 
 pub loop-j-preserved : goal.loop-j-preserved
 loop-j-preserved c =
-    row_goes_on c.loop-j.table c.byte_table-table.result _ c.args.columns c.loop-j.j c.args.row.now c.loop-j.invariant c.byte_table-table.ensures refl (omega arith) c.requires (omega arith)
+    row_goes_on c.loop-j.table c.byte_table-table.result _ c.args.columns c.loop-j.j c.args.row.now
+    c.loop-j.invariant c.byte_table-table.ensures refl (omega arith) c.requires (omega arith)
 
 pub returns : goal.returns
-returns c = row_ends c.loop-j.table c.args.columns c.loop-j.j c.args.row.now (omega arith) c.loop-j.invariant
+returns c = row_ends c.loop-j.table c.args.columns c.loop-j.j c.args.row.now (omega arith)
+    c.loop-j.invariant

@@ -10,7 +10,10 @@ pub note_seen-requires-clause-differs : goal.note_seen-requires-clause-differs
 note_seen-requires-clause-differs g c =
     let given = c.in-Ok-Open-default-Some in
     let P : PairOf → Type 0 = λ p.
-    differs_under (netlist_of p.first) (netlist_of p.second) (assumption_of p) (slice_index_or p.first.outputs given.output []) given.values.items
+    differs_under (netlist_of p.first) (netlist_of p.second) (assumption_of p)
+    (slice_index_or p.first.outputs given.output []) given.values.items
     ≡ true in
-    let found : IsSearched c.args.inside.now c.args.comparison.now.options.now.every (Open given.output (Some given.values)) = rw (given.field-0-is, given.field-0-1-is) at given.ensures.found in
+    let found : IsSearched c.args.inside.now c.args.comparison.now.options.now.every
+    (Open given.output (Some given.values)) = rw (given.field-0-is, given.field-0-1-is) at
+    given.ensures.found in
     subst P c.requires.inside found.2.1

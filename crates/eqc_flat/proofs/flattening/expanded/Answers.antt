@@ -11,7 +11,9 @@ returns-in-None-clause-refused c =
     let top = c.args.top in
     let same = rw c.in-Ok.is at c.calls_below.ensures.calls in
     let none = rw c.in-Ok.is at c.calls_below.ensures.models in
-    let large : is_too_large library top ≡ true = sym (ap (λ (l : List ModelOf). is_too_large l top) same) ∙ (rw c.in-None.is at c.in_ok-made.ensures) in
+    let large : is_too_large library top ≡ true =
+    sym (ap (λ (l : List ModelOf). is_too_large l top) same)
+    ∙ (rw c.in-None.is at c.in_ok-made.ensures) in
     rw c.of-in-None.ensures (inr (λ limit. code_29 library top limit none large))
 
 pub returns-in-Some-clause-models : goal.returns-in-Some-clause-models

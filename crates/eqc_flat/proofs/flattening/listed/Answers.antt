@@ -15,7 +15,8 @@ signals_of-requires-clause-named c = λ j h.
     c.outputs-outputs.ensures.names
     ∙ (ap (λ (n : ℕ). (model c.library.result.now n).outputs) c.top.ensures.top
     ∙ ap (λ (l : List ModelOf). (model l top).outputs) c.library.ensures) in
-    ap (λ (m : ModelOf). is_named (names_of m) (get_or c.outputs-outputs.result.now j [])) c.top.ensures.main
+    ap (λ (m : ModelOf). is_named (names_of m) (get_or c.outputs-outputs.result.now j []))
+    c.top.ensures.main
     ∙ (ap (λ (xs : List (List ℕ)). is_named (names_of (model library top)) (get_or xs j [])) outputs
     ∙ output_named (model library top) j (omega (arith, h, ap length outputs)))
 

@@ -4,4 +4,6 @@ use Rattle.eqc_netlist.proofs.Members.{all_at}
 use Rattle.eqc_flat.proofs.signal_order.narrow.Goals as goal
 
 pub overflow_cast-numbers : goal.overflow_cast-numbers
-overflow_cast-numbers c = let less = ltb-true _ 1048576 (all_at (λ x. nat_lt x 1048576) c.args.numbers.now c.loop-k.k 0 c.requires c.loop-k-test.true) in omega (arith, less)
+overflow_cast-numbers c = let less =
+    ltb-true _ 1048576 (all_at (λ x. nat_lt x 1048576) c.args.numbers.now c.loop-k.k 0 c.requires
+    c.loop-k-test.true) in omega (arith, less)

@@ -9,8 +9,11 @@ literal_at-requires c = rw c.get.ensures (c.requires.each c.loop-c.c (omega arit
 
 pub loop-c-preserved : goal.loop-c-preserved
 loop-c-preserved c =
-    found_more c.args.table.now c.args.steps.now c.loop-c.found.items c.push.new.self.items c.loop-c.c c.literal_at.result (omega arith)
-    c.loop-c.invariant (sym (ap (reference_of c.args.table.now) c.get.ensures) ∙ c.literal_at.ensures) c.in_ok-push.ensures.items
+    found_more c.args.table.now c.args.steps.now c.loop-c.found.items c.push.new.self.items
+    c.loop-c.c c.literal_at.result (omega arith)
+    c.loop-c.invariant (sym (ap (reference_of c.args.table.now) c.get.ensures)
+    ∙ c.literal_at.ensures) c.in_ok-push.ensures.items
 
 pub returns : goal.returns
-returns c = c.loop-c.invariant ∙ ap (map (reference_of c.args.table.now)) (take_all c.loop-c.c c.args.steps.now (omega arith))
+returns c = c.loop-c.invariant ∙ ap (map (reference_of c.args.table.now))
+    (take_all c.loop-c.c c.args.steps.now (omega arith))

@@ -8,11 +8,16 @@ pub returns-then-is_quiet-clause-some : goal.returns-then-is_quiet-clause-some
 returns-then-is_quiet-clause-some c =
     let from = c.loop-k.auto.k in
     let lt = c.loop-k-test.true in
-    let same = c.as_slice-all.ensures.value in
-    (omega arith, omega arith, subst (λ (ps : List Phase). IsQuiet (get_or ps c.loop-k.k Idle)) same (c.is_quiet.ensures.0 c.if-is_quiet.true))
+    let same = c.as_slice-all.ensures.value in (
+      omega arith,
+      omega arith,
+      subst (λ (ps : List Phase). IsQuiet (get_or ps c.loop-k.k Idle)) same
+          (c.is_quiet.ensures.0 c.if-is_quiet.true),
+    )
 
 pub returns-clause-none : goal.returns-clause-none
 returns-clause-none c = λ e j from lt.
     let past = c.loop-k-test.false in
     let same = c.as_slice-all.ensures.value in
-    λ quiet. c.loop-k.invariant j from (omega arith) (subst (λ (ps : List Phase). IsQuiet (get_or ps j Idle)) (sym same) quiet)
+    λ quiet. c.loop-k.invariant j from (omega arith)
+    (subst (λ (ps : List Phase). IsQuiet (get_or ps j Idle)) (sym same) quiet)

@@ -10,4 +10,5 @@ push-requires c =
     omega arith
 
 pub loop-k-preserved : goal.loop-k-preserved
-loop-k-preserved c = let e = idle-push c.loop-k._k in let i = c.push.ensures.items in let v = c.loop-k.invariant in cc
+loop-k-preserved c = let e = idle-push c.loop-k._k in let i = c.push.ensures.items in let v =
+    c.loop-k.invariant in cc

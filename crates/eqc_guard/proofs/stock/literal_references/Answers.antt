@@ -9,5 +9,6 @@ loop-k-preserved c =
     record {
       count = omega (arith, len, c.loop-k.invariant.count);
       room = omega (arith, c.push.ensures.capacity, c.loop-k.invariant.room);
-      slots = ap (λ rs. map (λ r. r.number) rs) items ∙ one_reference c.loop-k.references.items (record { number = c.loop-k.k + 2 }) c.loop-k.k c.loop-k.invariant.slots refl;
+      slots = ap (λ rs. map (λ r. r.number) rs) items ∙ one_reference c.loop-k.references.items
+          (record { number = c.loop-k.k + 2 }) c.loop-k.k c.loop-k.invariant.slots refl;
     }

@@ -12,13 +12,20 @@ returns c = elim c.if-i-n.branch [
       let few = c.requires.few in
       let stripe = c.requires.stripe in
       let swap : (c.args.s + 15) % 16 + 2 ≡ 2 + (c.args.s + 15) % 16 = omega arith in
-      let one : insert_entry eqb c.new-stripe.result.entries w.pack_node.result ((c.args.s + 15) % 16 + 2) ≡ (literal ((c.args.s + 15) % 16), 2 + (c.args.s + 15) % 16) ∷ [] =
-      ap (λ (es : List (ℕ × ℕ)). insert_entry eqb es w.pack_node.result ((c.args.s + 15) % 16 + 2)) c.new-stripe.ensures.empty ∙ (λ j. (w.pack_node.ensures j, swap j) ∷ []) in
+      let one : insert_entry eqb c.new-stripe.result.entries w.pack_node.result
+      ((c.args.s + 15) % 16 + 2) ≡ (literal ((c.args.s + 15) % 16), 2 + (c.args.s + 15) % 16)
+      ∷ [] =
+      ap (λ (es : List (ℕ × ℕ)). insert_entry eqb es w.pack_node.result ((c.args.s + 15) % 16 + 2))
+      c.new-stripe.ensures.empty ∙ (λ j. (w.pack_node.ensures j, swap j) ∷ []) in
       ap (λ m. m.entries) w.stripe-is
-      ∙ (w.in_ok-insert.ensures.entries ∙ (one ∙ sym (one_stripe_literal c.args.s ((c.args.s + 15) % 16) 0 c.args.n (omega arith) (omega arith) (omega arith) (omega arith) (omega arith))))
+      ∙ (w.in_ok-insert.ensures.entries
+      ∙ (one ∙ sym (one_stripe_literal c.args.s ((c.args.s + 15) % 16) 0 c.args.n (omega arith)
+      (omega arith) (omega arith) (omega arith) (omega arith))))
   | else-i-n w ↦
       let none = w.if-i-n.false in
       let few = c.requires.few in
       let stripe = c.requires.stripe in
-      ap (λ m. m.entries) w.stripe-is ∙ (c.new-stripe.ensures.empty ∙ sym (no_literal c.args.s ((c.args.s + 15) % 16) 0 c.args.n (omega arith) (omega arith) (omega arith) (inr (omega arith))))
+      ap (λ m. m.entries) w.stripe-is ∙ (c.new-stripe.ensures.empty
+      ∙ sym (no_literal c.args.s ((c.args.s + 15) % 16) 0 c.args.n (omega arith) (omega arith)
+      (omega arith) (inr (omega arith))))
 ]

@@ -8,5 +8,7 @@ pub returns : goal.returns
 unfolding callees
 returns c =
     c.instances.invariant
-    ∙ (ap (map (λ (i : InstanceOf). model_number c.args.library.now i.model)) (take_all c.instances.instance-index c.instances-instances.result.now (omega arith))
-    ∙ ap (map (λ (i : InstanceOf). model_number c.args.library.now i.model)) c.instances-instances.ensures)
+    ∙ (ap (map (λ (i : InstanceOf). model_number c.args.library.now i.model))
+    (take_all c.instances.instance-index c.instances-instances.result.now (omega arith))
+    ∙ ap (map (λ (i : InstanceOf). model_number c.args.library.now i.model))
+    c.instances-instances.ensures)

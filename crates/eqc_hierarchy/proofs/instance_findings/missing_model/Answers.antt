@@ -8,5 +8,7 @@ use Rattle.eqc_hierarchy.proofs.instance_findings.missing_model.Goals as goal
 
 pub first_at_fault-requires-clause-some : goal.first_at_fault-requires-clause-some
 first_at_fault-requires-clause-some c =
-    let P : List ModelOf → Type 0 = λ l. some_instance_in c.args.library.now (reached c.args.library.now c.args.top) (names_no_model l) ≡ true in
-    subst P (sym c.new-condition.ensures) (model_missing c.args.library.now c.args.top c.requires.refused)
+    let P : List ModelOf → Type 0 = λ l. some_instance_in c.args.library.now
+    (reached c.args.library.now c.args.top) (names_no_model l) ≡ true in
+    subst P (sym c.new-condition.ensures) (model_missing c.args.library.now c.args.top
+    c.requires.refused)

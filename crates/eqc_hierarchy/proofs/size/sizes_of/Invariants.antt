@@ -6,5 +6,6 @@ use Rattle.eqc_hierarchy.proofs.size.sizes_of.Given as goal
 abbrev pub invariant-loop-k : goal.invariant-loop-k
 invariant-loop-k l = record {
   each : length l.sizes.items ≡ length l.calls + 1;
-  told : (m : ℕ) → among (take l.k l.order) m ≡ true → IsTold (get_or l.sizes.items m None) (model_size l.calls m);
+  told : (m : ℕ) → among (take l.k l.order) m ≡ true
+      → IsTold (get_or l.sizes.items m None) (model_size l.calls m);
 }

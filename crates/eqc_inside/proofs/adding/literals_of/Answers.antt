@@ -12,7 +12,10 @@ outputs-preserved c =
     let x = c.literal_of-x.result in
     let y = c.literal_of-y.result in
     record {
-      asking = rw c.in_ok-push.ensures.items (rw c.in_ok-push-2.ensures.items (asking_more c.args.steps.now c.args.literals.now word ps qs c.roots-roots.result k x y
-          (All-get_or (λ o. o < length c.args.steps.now.pair.first.outputs) word k 0 c.outputs-test.true c.requires.outputs) c.roots-roots.ensures c.literal_of-x.ensures c.literal_of-y.ensures c.if-x.false c.if-y.false
+      asking = rw c.in_ok-push.ensures.items (rw c.in_ok-push-2.ensures.items
+          (asking_more c.args.steps.now c.args.literals.now word ps qs c.roots-roots.result k x y
+          (All-get_or (λ o. o < length c.args.steps.now.pair.first.outputs) word k 0
+          c.outputs-test.true c.requires.outputs) c.roots-roots.ensures c.literal_of-x.ensures
+          c.literal_of-y.ensures c.if-x.false c.if-y.false
           c.outputs.invariant.asking));
     }

@@ -11,13 +11,22 @@ steps-preserved c = elim c.match-standing_for.branch [
       let shown = c.steps.shown.items in
       let step = c.steps.step in
       let literal = w.in-Some.literal in
-      let set_is : c.match-standing_for.shown.items ≡ set shown step (Some literal) = search rules in
-      let inside : step < length shown = omega (arith, c.steps-test.true, c.len-step-end.ensures, c.steps.invariant.size) in
+      let set_is : c.match-standing_for.shown.items ≡ set shown step (Some literal) = search rules
+      in
+      let inside : step < length shown = omega (
+        arith,
+        c.steps-test.true,
+        c.len-step-end.ensures,
+        c.steps.invariant.size,
+      ) in
       record {
         size = rw set_is (length-set shown step (Some literal) ∙ c.steps.invariant.size);
         literals = λ p nodes within equal are before. rw set_is
-            (literals_set p nodes shown step literal (c.steps.invariant.literals p nodes within equal are before)
-            (w.in-Some.ensures nodes (λ a. value_at p a step) within equal (entry_has p nodes c.args.literals.now step c.entry.result are c.entry.ensures)) inside);
+            (literals_set p nodes shown step literal (c.steps.invariant.literals p nodes within
+            equal are before)
+            (w.in-Some.ensures nodes (λ a. value_at p a step) within equal
+            (entry_has p nodes c.args.literals.now step c.entry.result are c.entry.ensures))
+            inside);
       }
   | in_default w ↦ rw w.shown-is c.steps.invariant
 ]

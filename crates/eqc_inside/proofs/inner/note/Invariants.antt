@@ -9,5 +9,7 @@ use Rattle.eqc_inside.proofs.inner.note.Given as goal
 abbrev pub invariant-steps : goal.invariant-steps
 invariant-steps l = record {
   size : length l.shown.items ≡ length l.initial.shown.items;
-  literals : (p : PairOf) (nodes : List Node) → IsWithin nodes l.first → AreEqual nodes l.first l.second → AreLiterals p nodes l.literals → AreLiterals p nodes l.initial.shown.items → AreLiterals p nodes l.shown.items;
+  literals : (p : PairOf) (nodes : List Node) → IsWithin nodes l.first
+      → AreEqual nodes l.first l.second → AreLiterals p nodes l.literals
+      → AreLiterals p nodes l.initial.shown.items → AreLiterals p nodes l.shown.items;
 }

@@ -4,6 +4,7 @@ use Rattle.eqc_inside.proofs.inner.shown_of.Goals.{then-some, else-some}
 
 pub returns : goal.returns
 returns g c = λ p are. elim c.if-some.branch [
-  | then-some w ↦ rw w.result-is (tell_equal p c.args.graph.now c.words.shown.items (c.words.invariant p are))
+  | then-some w ↦ rw w.result-is (tell_equal p c.args.graph.now c.words.shown.items
+      (c.words.invariant p are))
   | else-some w ↦ rw w.result-is (record {})
 ]

@@ -9,6 +9,8 @@ loop-output-preserved c =
     let i = c.loop-output.invariant in
     rw c.in_ok-push.ensures.items (
       omega (arith, i.0, length-append c.loop-output.more.items (c.is_known_equal.result ∷ [])),
-      equal_more p c.loop-output.more.items c.is_known_equal.result c.loop-output.output i.0 i.1 c.is_known_equal.ensures.equal,
-      kept_more c.args.marks.now c.loop-output.more.items c.is_known_equal.result c.loop-output.output i.0 i.2 c.is_known_equal.ensures.kept,
+      equal_more p c.loop-output.more.items c.is_known_equal.result c.loop-output.output i.0 i.1
+          c.is_known_equal.ensures.equal,
+      kept_more c.args.marks.now c.loop-output.more.items c.is_known_equal.result
+          c.loop-output.output i.0 i.2 c.is_known_equal.ensures.kept,
     )

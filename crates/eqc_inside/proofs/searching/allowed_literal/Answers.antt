@@ -2,7 +2,10 @@ use Rattle.eqc_inside.proofs.SearchingLaws.{says_allowed, says_always}
 use Rattle.eqc_inside.proofs.searching.allowed_literal.Goals as goal
 
 pub returns-in_default-clause-allowed : goal.returns-in_default-clause-allowed
-returns-in_default-clause-allowed c = says_always c.args.steps.now c.args.sweep.now c.constant.result c.in_default.ensures c.constant.ensures
+returns-in_default-clause-allowed c = says_always c.args.steps.now c.args.sweep.now
+    c.constant.result c.in_default.ensures c.constant.ensures
 
 pub returns-clause-allowed : goal.returns-clause-allowed
-returns-clause-allowed c = says_allowed c.args.steps.now c.args.sweep.now c.args.literals.now c.in-Some.root c.literal_of-literal.result c.requires c.in-Some.ensures c.literal_of-literal.ensures c.if-literal.false
+returns-clause-allowed c = says_allowed c.args.steps.now c.args.sweep.now c.args.literals.now
+    c.in-Some.root c.literal_of-literal.result c.requires c.in-Some.ensures
+    c.literal_of-literal.ensures c.if-literal.false

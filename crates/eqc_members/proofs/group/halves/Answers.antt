@@ -21,18 +21,27 @@ returns g c =
         };
         some = omega (arith, split.len, c.len.ensures, c.len-2.ensures, c.requires.several);
         numbers = omega (arith, h.numbers, split.len, c.len.ensures, c.len-2.ensures);
-        variables = rw split.items (All-take (λ d. length c.args.pair.now.first.inputs ≤ (g.D.References.holding d).variables) _ _ h.variables);
+        variables = rw split.items (All-take (λ d. length c.args.pair.now.first.inputs
+            ≤ (g.D.References.holding d).variables) _ _ h.variables);
       };
       back = record {
         fresh = record {
           own = theirs.0;
           outputs = h.fresh.outputs;
-          seats = omega (arith, given, h.fresh.seats, split.tail_len, c.len.ensures, c.len-2.ensures);
+          seats = omega (
+            arith,
+            given,
+            h.fresh.seats,
+            split.tail_len,
+            c.len.ensures,
+            c.len-2.ensures,
+          );
           drawn = ap (λ (v : View). v.drawn) theirs.1;
         };
         some = omega (arith, split.tail_len, c.len.ensures, c.len-2.ensures, c.requires.several);
         numbers = omega (arith, h.numbers, split.tail_len, c.len.ensures, c.len-2.ensures);
-        variables = rw split.tail (All-drop (λ d. length c.args.pair.now.first.inputs ≤ (g.D.References.holding d).variables) _ _ h.variables);
+        variables = rw split.tail (All-drop (λ d. length c.args.pair.now.first.inputs
+            ≤ (g.D.References.holding d).variables) _ _ h.variables);
       };
       all = omega (arith, split.len, split.tail_len, c.len.ensures, c.len-2.ensures);
       numbers = (refl, omega (arith, split.len, c.len.ensures, c.len-2.ensures));

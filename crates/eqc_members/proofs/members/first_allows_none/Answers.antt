@@ -7,17 +7,22 @@ allows_none-requires g c =
     let size : length c.args.members.now.items ≡ vec_len c.args.members.now = search rules in
     record {
       variables =
-          subst (λ (d : g.row.D.Denot). length c.args.pair.now.first.inputs ≤ (g.D.References.holding d).variables)
-          (sym c.index_mut.ensures.value) (c.requires.variables 0 c.index_mut.result.now (omega (arith, size, c.requires.some)));
+          subst (λ (d : g.row.D.Denot). length c.args.pair.now.first.inputs
+          ≤ (g.D.References.holding d).variables)
+          (sym c.index_mut.ensures.value) (c.requires.variables 0 c.index_mut.result.now
+          (omega (arith, size, c.requires.some)));
     }
 
 pub returns : goal.returns
 returns g c =
     let size : length c.args.members.now.items ≡ vec_len c.args.members.now = search rules in
     let first =
-    subst (λ (d : g.row.D.Denot). length c.args.pair.now.first.inputs ≤ (g.D.References.holding d).variables) (sym c.index_mut.ensures.value)
+    subst (λ (d : g.row.D.Denot). length c.args.pair.now.first.inputs
+    ≤ (g.D.References.holding d).variables) (sym c.index_mut.ensures.value)
     (c.requires.variables 0 c.index_mut.result.now (omega (arith, size, c.requires.some))) in
-    let still : length c.args.pair.now.first.inputs ≤ (g.D.References.holding c.allows_none.new.d).variables = omega (arith, first, c.allows_none.ensures.kept.variables) in
+    let still : length c.args.pair.now.first.inputs
+    ≤ (g.D.References.holding c.allows_none.new.d).variables =
+    omega (arith, first, c.allows_none.ensures.kept.variables) in
     record {
       none = c.allows_none.ensures.none;
       members = record {
@@ -25,6 +30,8 @@ returns g c =
         some = c.requires.some;
         numbers = c.requires.numbers;
         variables =
-            All-set (λ (d : g.row.D.Denot). length c.args.pair.now.first.inputs ≤ (g.D.References.holding d).variables) c.args.members.now.items 0 c.allows_none.new.d still c.requires.variables;
+            All-set (λ (d : g.row.D.Denot). length c.args.pair.now.first.inputs
+            ≤ (g.D.References.holding d).variables) c.args.members.now.items 0 c.allows_none.new.d
+            still c.requires.variables;
       };
     }

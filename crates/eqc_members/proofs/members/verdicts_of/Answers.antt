@@ -8,8 +8,10 @@ returns c =
     let s = c.requires.share in
     let m = length c.args.pair.now.first.outputs in record {
       once = λ x.
-          ap (times x) s.each ∙ outputs_once m c.settle.result c.args.share.seat.me.0.drawn c.settle.ensures.once
-          (ap (λ k. strangers k c.args.share.seat.me.0.drawn) (sym c.requires.key) ∙ (c.settle.ensures.beyond ∙ ap (λ k. c.settle.result - k) c.requires.key))
+          ap (times x) s.each ∙ outputs_once m c.settle.result c.args.share.seat.me.0.drawn
+          c.settle.ensures.once
+          (ap (λ k. strangers k c.args.share.seat.me.0.drawn) (sym c.requires.key)
+          ∙ (c.settle.ensures.beyond ∙ ap (λ k. c.settle.result - k) c.requires.key))
           (omega (arith, s.done, c.requires.some)) x;
       right = s.right;
     }

@@ -7,5 +7,6 @@ fetch_add-requires c =
     let own = c.requires.own in (
       own.0,
       rw own.1 (omega arith),
-      draw_allows c.args.words.now.key c.args.words.now.table_id.slots c.args.seat.now.id c.args.seat.now.me c.requires.room,
+      draw_allows c.args.words.now.key c.args.words.now.table_id.slots c.args.seat.now.id
+          c.args.seat.now.me c.requires.room,
     )

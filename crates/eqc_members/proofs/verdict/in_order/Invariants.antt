@@ -8,7 +8,8 @@ invariant-loop-output l = let m = length l.fn.pair.first.outputs in
     (vec_len l.row ≡ m)
     × ((x : ℕ) → times x (named l.rest.items) ≤ once_below x m)
     × All (IsRight (asked l.fn.pair l.every)) l.rest.items
-    × ((o : ℕ) → o < m → Stands (asked l.fn.pair l.every) l.rest.items o (slice_index_or l.row.items o None))
+    × ((o : ℕ) → o < m → Stands (asked l.fn.pair l.every) l.rest.items o (slice_index_or l.row.items
+    o None))
 
 abbrev pub decreases-loop-output : goal.decreases-loop-output
 decreases-loop-output l = goal.left-loop-output l

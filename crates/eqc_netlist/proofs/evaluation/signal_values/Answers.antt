@@ -10,12 +10,16 @@ loop-k-preserved c =
     let inside : c.loop-k.k < length c.args.flat.now.steps = omega (arith, ap length steps) in
     let value = rw (steps, c.deref.ensures.value) at c.in_ok-value.ensures in
     rw steps
-    (known_more c.args.flat.now (values_of c.args.inputs.now) c.loop-k.values.items c.loop-k.k c.in_ok-value.value
+    (known_more c.args.flat.now (values_of c.args.inputs.now) c.loop-k.values.items c.loop-k.k
+    c.in_ok-value.value
     c.steps-steps.ensures.lawful c.steps-steps.ensures.follows inside c.loop-k.invariant value)
 
 pub returns-clause-each : goal.returns-clause-each
 returns-clause-each c =
-    let at_end : c.loop-k.k ≡ length c.args.flat.now.steps = omega (arith, ap length c.steps-steps.ensures.steps) in
+    let at_end : c.loop-k.k ≡ length c.args.flat.now.steps =
+    omega (arith, ap length c.steps-steps.ensures.steps) in
     λ s inside.
-    known_all c.args.flat.now (values_of c.args.inputs.now) c.loop-k.values.items s c.steps-steps.ensures.lawful
-    (subst (AreKnown c.args.flat.now (values_of c.args.inputs.now) c.loop-k.values.items) at_end c.loop-k.invariant) inside
+    known_all c.args.flat.now (values_of c.args.inputs.now) c.loop-k.values.items s
+    c.steps-steps.ensures.lawful
+    (subst (AreKnown c.args.flat.now (values_of c.args.inputs.now) c.loop-k.values.items) at_end
+    c.loop-k.invariant) inside

@@ -4,14 +4,19 @@ use Rattle.std.proofs.lemmas.Bool.{eqb-true}
 use Rattle.std.proofs.lemmas.List.Quantifiers.{position-Some}
 use Rattle.eqc_netlist.specs.Rule.{rule_code}
 use Rattle.eqc_netlist.specs.declared.rule.Rule.{Rule}
-use Rattle.eqc_netlist.specs.declared.rule.Rule.TheVariants.{NoSuchModel, Recursion, UnknownFormal, FormalTwice, MissingInput, DrivenTwice, Undriven, Circle, TooLarge, ManyInputs, Memory}
+use Rattle.eqc_netlist.specs.declared.rule.Rule.TheVariants.{NoSuchModel, Recursion, UnknownFormal}
+use Rattle.eqc_netlist.specs.declared.rule.Rule.TheVariants.{FormalTwice, MissingInput, DrivenTwice}
+use Rattle.eqc_netlist.specs.declared.rule.Rule.TheVariants.{Undriven, Circle, TooLarge, ManyInputs}
+use Rattle.eqc_netlist.specs.declared.rule.Rule.TheVariants.{Memory}
 use Rattle.eqc_netlist.proofs.fault.rule_of.Goals as goal
 
 all : List Rule
-all = NoSuchModel ∷ Recursion ∷ UnknownFormal ∷ FormalTwice ∷ MissingInput ∷ DrivenTwice ∷ Undriven ∷ Circle ∷ TooLarge ∷ ManyInputs ∷ []
+all = NoSuchModel ∷ Recursion ∷ UnknownFormal ∷ FormalTwice ∷ MissingInput ∷ DrivenTwice ∷ Undriven
+    ∷ Circle ∷ TooLarge ∷ ManyInputs ∷ []
 
 -- each rule but memory's has a place
-memory_alone : (rule : Rule) → position (λ r. rule_code r == rule_code rule) all ≡ None → rule_code Memory ≡ rule_code rule
+memory_alone : (rule : Rule) → position (λ r. rule_code r == rule_code rule) all ≡ None
+    → rule_code Memory ≡ rule_code rule
 unfolding all
 memory_alone NoSuchModel e = absurd (cc)
 memory_alone Recursion e = absurd (cc)
@@ -29,8 +34,10 @@ pub returns-in-Some : goal.returns-in-Some
 unfolding all
 returns-in-Some c = λ rule e.
     eqb-true (rule_code (get_or all c.in-Some.k NoSuchModel)) c.args.code.now
-    (position-Some (λ r. rule_code r == c.args.code.now) all c.in-Some.k NoSuchModel (sym c.in-Some.ensures)).1
+    (position-Some (λ r. rule_code r == c.args.code.now) all c.in-Some.k NoSuchModel
+    (sym c.in-Some.ensures)).1
 
 pub returns-in-None : goal.returns-in-None
 unfolding all
-returns-in-None c = λ rule e. memory_alone rule (ap (λ (n : ℕ). position (λ r. rule_code r == n) all) e ∙ sym c.in-None.ensures) ∙ e
+returns-in-None c = λ rule e. memory_alone rule (ap (λ (n : ℕ). position (λ r. rule_code r == n)
+    all) e ∙ sym c.in-None.ensures) ∙ e

@@ -4,4 +4,5 @@ use Rattle.eqc_netlist.specs.Pieces.{piece}
 use Rattle.eqc_netlist.proofs.pieces.write_pieces.Given as goal
 
 abbrev pub invariant-loop-k : goal.invariant-loop-k
-invariant-loop-k g l = l.state ≡ fold g.H.Hasher.write l.initial.state (map (piece l.bytes) (range_with_len 0 l.k))
+invariant-loop-k g l = l.state ≡ fold g.H.Hasher.write l.initial.state
+    (map (piece l.bytes) (range_with_len 0 l.k))

@@ -5,5 +5,6 @@ use Rattle.eqc_pair.proofs.name_index.marks_but.Given as goal
 abbrev pub invariant-places : goal.invariant-places
 invariant-places l = record {
   size : length l.marks.items ≡ l.count;
-  each : (o : ℕ) → o < l.count → get_or l.marks.items o false ≡ not (list_any (eqb o) (take l.place-index l.places));
+  each : (o : ℕ) → o < l.count → get_or l.marks.items o false
+      ≡ not (list_any (eqb o) (take l.place-index l.places));
 }

@@ -5,7 +5,8 @@ use Rattle.eqc_pair.proofs.order.order_words.Given as goal
 use Rattle.eqc_netlist.proofs.NameSetLaws.{bytes_in}
 
 abbrev pub invariant-lines : goal.invariant-lines
-invariant-lines l = bytes_in l.words.items ++ flat_map line_words (slice_split (λ b. eqb b 10) l.rest) ≡ order_words l.text
+invariant-lines l = bytes_in l.words.items ++ flat_map line_words (slice_split (λ b. eqb b 10)
+    l.rest) ≡ order_words l.text
 
 abbrev pub decreases-lines : goal.decreases-lines
 decreases-lines l = length l.rest

@@ -7,5 +7,6 @@ pub returns-clause-at : goal.returns-clause-at
 returns-clause-at c =
     let xs = c.args.reached.now.keys in
     let P : Option ℕ → Type 0 = λ o. IfSome o (λ k. (k < length xs) × (get_or xs k 0 ≡ c.args.x)) in
-    let p = subst P c.in-Some.is (stands_at c.get_index_of.result c.args.x xs c.get_index_of.ensures.index) in
+    let p = subst P c.in-Some.is (stands_at c.get_index_of.result c.args.x xs
+    c.get_index_of.ensures.index) in
     p.1

@@ -4,4 +4,5 @@ use Rattle.eqc_plain.proofs.Deciding.{two_nodes}
 use Rattle.eqc_plain.proofs.terminal.decide_and.Goals as goal
 
 pub returns-clause-undecided : goal.returns-clause-undecided
-returns-clause-undecided c x d = two_nodes And c.args.f c.args.g x (omega arith) (omega arith) c.if-f-g.false d
+returns-clause-undecided c x d = two_nodes And c.args.f c.args.g x (omega arith) (omega arith)
+    c.if-f-g.false d

@@ -17,5 +17,6 @@ returns-in-Ok-clause-report c =
     (λ e.
     let size : length found.items ≡ vec_len found = search rules in
     let none : vec_len found ≡ 0 = sym size ∙ ap length e in
-    true≢false (sym (eq-eqb (vec_len found) 0 none) ∙ (sym c.is_empty.ensures ∙ c.if-is_empty.false)))
+    true≢false (sym (eq-eqb (vec_len found) 0 none) ∙ (sym c.is_empty.ensures
+    ∙ c.if-is_empty.false)))
     c.in-Ok.ensures

@@ -12,6 +12,8 @@ returns c =
       compared = c.count.ensures;
       count = c.count-2.ensures;
       words = c.words_left-words.ensures;
-      alone = subst (λ words. c.left_alone-alone.result ≡ count_of p (is_alone p marks words)) c.deref-2.ensures.value c.left_alone-alone.ensures;
-      names = subst (λ words. All (IsNameWhere p (is_alone p marks words)) (map (λ name. name.items) names)) c.deref.ensures.value c.names_alone-names.ensures;
+      alone = subst (λ words. c.left_alone-alone.result ≡ count_of p (is_alone p marks words))
+          c.deref-2.ensures.value c.left_alone-alone.ensures;
+      names = subst (λ words. All (IsNameWhere p (is_alone p marks words)) (map (λ name. name.items)
+          names)) c.deref.ensures.value c.names_alone-names.ensures;
     }

@@ -10,5 +10,6 @@ loop-k-preserved c =
     rw c.in_ok-push.ensures.items (record {
       size = omega (arith, c.loop-k.invariant.size, length_push all copy);
       copies = λ old new are.
-          copies_more old new c.args.literals.now all c.loop-k.k copy c.loop-k.invariant.size (c.loop-k.invariant.copies old new are) (c.in-Some.ensures old new are);
+          copies_more old new c.args.literals.now all c.loop-k.k copy c.loop-k.invariant.size
+          (c.loop-k.invariant.copies old new are) (c.in-Some.ensures old new are);
     })

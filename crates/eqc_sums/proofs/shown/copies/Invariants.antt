@@ -7,5 +7,6 @@ use Rattle.eqc_sums.proofs.shown.copies.Given as goal
 abbrev pub invariant-loop-k : goal.invariant-loop-k
 invariant-loop-k l = record {
   size : length l.all.items ≡ l.k;
-  copies : (old new : List Node) → AreCopies old new l.table → AreCopiesOf old new l.literals l.all.items;
+  copies : (old new : List Node) → AreCopies old new l.table
+      → AreCopiesOf old new l.literals l.all.items;
 }

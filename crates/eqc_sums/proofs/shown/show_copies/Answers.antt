@@ -14,8 +14,12 @@ returns c = λ old are.
     let new = c.show.new.self.reduction.sweep in
     let ps = c.in_ok-ps.ps.items in
     let qs = c.in_ok-qs.qs.items in
-    let grown : Extends now new = extends_both now found new c.find_adders.ensures (extends_both found carried new c.find_carries.ensures c.show.ensures.extends) in
+    let grown : Extends now new = extends_both now found new c.find_adders.ensures
+    (extends_both found carried new c.find_carries.ensures c.show.ensures.extends) in
     IfOk-weaker c.show.result _ _ (λ is shown yes.
-    words_back old now new c.args.firsts.now c.args.seconds.now ps qs grown (c.in_ok-ps.ensures old now are) (c.in_ok-qs.ensures old now are) (omega arith) (omega arith)
-    (subst (λ ls. AreEqualWords new ls qs) c.deref.ensures.value (subst (λ ls. AreEqualWords new c.deref.result.now ls) c.deref-2.ensures.value (shown yes))))
+    words_back old now new c.args.firsts.now c.args.seconds.now ps qs grown (c.in_ok-ps.ensures old
+    now are) (c.in_ok-qs.ensures old now are) (omega arith) (omega arith)
+    (subst (λ ls. AreEqualWords new ls qs) c.deref.ensures.value
+    (subst (λ ls. AreEqualWords new c.deref.result.now ls) c.deref-2.ensures.value
+    (shown yes))))
     c.show.ensures.equal

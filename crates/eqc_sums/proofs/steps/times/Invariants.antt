@@ -7,5 +7,6 @@ abbrev pub invariant-loop-term : goal.invariant-loop-term
 invariant-loop-term l = record {
   extends : Extends l.fn.sweep l.sweep;
   sum : (h : (ℕ → Bool) → ℕ) → HasSum l.fn.sweep l.fn.out.items h
-      → HasSum l.sweep l.out.items (λ a. h a + (l.factor * bit (literal_value l.fn.sweep a l.by)) * terms_sum (literal_value l.fn.sweep a) (take l.term-index l.terms));
+      → HasSum l.sweep l.out.items (λ a. h a + (l.factor * bit (literal_value l.fn.sweep a l.by)) *
+      terms_sum (literal_value l.fn.sweep a) (take l.term-index l.terms));
 }

@@ -9,4 +9,6 @@ use Rattle.eqc_team_tests.proofs.builders.at.Goals as goal
 pub returns : goal.returns
 returns g c = λ member held.
     let r = c.index-references-place.result in
-    subst (λ (q : Ref). 0 < copies (holding_in member.names) (entry_of q)) (sym c.index-references-place.is) (is_there c.args.references.now c.args.place r member (omega arith) held)
+    subst (λ (q : Ref). 0 < copies (holding_in member.names) (entry_of q))
+    (sym c.index-references-place.is) (is_there c.args.references.now c.args.place r member
+    (omega arith) held)

@@ -11,12 +11,15 @@ invariant_of-builder g c =
     record {
       building =
           subst (λ (l : List Ref). IsBuilding c.args.vars true l member) (sym c.new.ensures.items)
-          (first_builds c.args.vars nodes cells workers c.args.members.items c.remove-member.new.self.items member team
-          (omega (arith, c.requires.some)) c.remove-member.ensures.value c.remove-member.ensures.items).0;
+          (first_builds c.args.vars nodes cells workers c.args.members.items
+          c.remove-member.new.self.items member team
+          (omega (arith, c.requires.some)) c.remove-member.ensures.value
+          c.remove-member.ensures.items).0;
     }
 
 pub returns : goal.returns
 returns g c =
     let (nodes, cells, workers, team) = c.requires.team in
-    (first_builds c.args.vars nodes cells workers c.args.members.items c.remove-member.new.self.items c.remove-member.result team
+    (first_builds c.args.vars nodes cells workers c.args.members.items
+    c.remove-member.new.self.items c.remove-member.result team
     (omega (arith, c.requires.some)) c.remove-member.ensures.value c.remove-member.ensures.items).1

@@ -11,5 +11,6 @@ invariant_of-result g c =
     record {
       building =
           subst (λ (l : List Ref). IsBuilding c.args.vars true l member) (sym c.new.ensures.items)
-          (first_builds c.args.vars c.args.nodes 64 1 c.in-Ok.members.items rest member c.in-Ok.ensures.team (omega arith) c.remove.ensures.value c.remove.ensures.items).0;
+          (first_builds c.args.vars c.args.nodes 64 1 c.in-Ok.members.items rest member
+          c.in-Ok.ensures.team (omega arith) c.remove.ensures.value c.remove.ensures.items).0;
     }

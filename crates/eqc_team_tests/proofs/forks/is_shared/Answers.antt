@@ -3,4 +3,5 @@ use Rattle.eqc_team_tests.proofs.builders.Crossing.{builder_send}
 use Rattle.eqc_team_tests.proofs.forks.is_shared.Goals as goal
 
 pub join_mut-right-requires-send-F : goal.join_mut-right-requires-send-F
-join_mut-right-requires-send-F g c κs within = search (sendable, builder_send, c.type_bounds.sync-R) depth 20
+join_mut-right-requires-send-F g c κs within = search (sendable, builder_send, c.type_bounds.sync-R)
+    depth 20

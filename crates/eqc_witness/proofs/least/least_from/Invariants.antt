@@ -9,5 +9,6 @@ invariant-loop-position l = record {
   long : length l.values.items ≡ l.cone.positions;
   holds : holds_under l.cone.graph l.cone.root l.values.items ≡ true;
   sound : IsSound l.cone.graph l.means.search;
-  begun : IsBegun l.cone.positions (holds_under l.cone.graph l.cone.root) (take l.position l.values.items);
+  begun : IsBegun l.cone.positions (holds_under l.cone.graph l.cone.root)
+      (take l.position l.values.items);
 }

@@ -8,7 +8,14 @@ use Rattle.eqc_worker_tests.proofs.drivers.stocked.Goals as goal
 pub invariant_of-result : goal.invariant_of-result
 invariant_of-result g c = let e = sym c.in-Ok.ensures.stocked in record {
   driven = record {
-    stands = subst (λ (k : Known). IsAt Idle 0 k.core) e (record { four_words = refl; phases = refl; place = refl; no_draft = refl; no_hand = refl });
-    covered = subst (λ (k : Known). AreCovered c.in-Ok.references.items k.core.held) e (all_covered c.in-Ok.references.items _ c.in-Ok.ensures.references);
+    stands = subst (λ (k : Known). IsAt Idle 0 k.core) e (record {
+      four_words = refl;
+      phases = refl;
+      place = refl;
+      no_draft = refl;
+      no_hand = refl;
+    });
+    covered = subst (λ (k : Known). AreCovered c.in-Ok.references.items k.core.held) e
+        (all_covered c.in-Ok.references.items _ c.in-Ok.ensures.references);
   };
 }

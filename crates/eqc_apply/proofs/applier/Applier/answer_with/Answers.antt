@@ -15,10 +15,12 @@ pub answer_task-requires-clause-g : goal.answer_task-requires-clause-g
 answer_task-requires-clause-g g c = gained_held (entry_of c.in-Ok.second) _ c.in-Ok.ensures.ok
 
 pub give_back-requires : goal.give_back-requires
-give_back-requires g c = kept_held (entry_of c.in-Ok.second) c.answer_task.ensures.kept (gained_held (entry_of c.in-Ok.second) _ c.in-Ok.ensures.ok)
+give_back-requires g c = kept_held (entry_of c.in-Ok.second) c.answer_task.ensures.kept
+    (gained_held (entry_of c.in-Ok.second) _ c.in-Ok.ensures.ok)
 
 pub put_stop-requires-clause-f : goal.put_stop-requires-clause-f
-put_stop-requires-clause-f g c = subst (λ (n : Held). IsHeld n.worker.known.core c.args.f.now.name) (sym c.in-Err.ensures.still) (name_held c.args.self.now.names c.args.f.now c.requires.f)
+put_stop-requires-clause-f g c = subst (λ (n : Held). IsHeld n.worker.known.core c.args.f.now.name)
+    (sym c.in-Err.ensures.still) (name_held c.args.self.now.names c.args.f.now c.requires.f)
 
 pub invariant_of-self-in-Err : goal.invariant_of-self-in-Err
 invariant_of-self-in-Err g c =
@@ -26,12 +28,17 @@ invariant_of-self-in-Err g c =
     record {
       cached =
           cells_stay c.refer.new.self c.put_stop.new.self s.cells.cells.items c.put_stop.ensures
-          (subst (λ (n : Held). IsCache (kept_of n.variables n.worker.known) s.cells.cells.items) (sym c.in-Err.ensures.still) s.cached);
+          (subst (λ (n : Held). IsCache (kept_of n.variables n.worker.known) s.cells.cells.items)
+          (sym c.in-Err.ensures.still) s.cached);
     }
 
 pub returns-in-Err-clause-kept : goal.returns-in-Err-clause-kept
 returns-in-Err-clause-kept g c =
-    subst (λ (n : Held). Keeps (holding_in n) (holding_in c.put_stop.new.self)) c.in-Err.ensures.still (extends_keeps c.refer.new.self c.put_stop.new.self c.put_stop.ensures)
+    subst (λ (n : Held). Keeps (holding_in n) (holding_in c.put_stop.new.self))
+    c.in-Err.ensures.still (extends_keeps c.refer.new.self c.put_stop.new.self
+    c.put_stop.ensures)
 
 pub returns-in-Ok-clause-turns : goal.returns-in-Ok-clause-turns
-returns-in-Ok-clause-turns g c = spends_trans (spends_as c.args.self.now.names.turns c.refer.new.self.turns c.refer.ensures.turns) (spends_trans c.answer_task.ensures.turns c.give_back.ensures.turns)
+returns-in-Ok-clause-turns g c =
+    spends_trans (spends_as c.args.self.now.names.turns c.refer.new.self.turns
+    c.refer.ensures.turns) (spends_trans c.answer_task.ensures.turns c.give_back.ensures.turns)

@@ -14,4 +14,5 @@ invariant-turns g l = record {
 }
 
 abbrev pub decreases-turns : goal.decreases-turns
-decreases-turns g l = owed_all l.self.names.variables l.self.tasks.items + work (meaning_in l.self.names) l.next.0 l.next.1
+decreases-turns g l = owed_all l.self.names.variables l.self.tasks.items
+    + work (meaning_in l.self.names) l.next.0 l.next.1

@@ -6,7 +6,11 @@ use Rattle.eqc_plain.proofs.Spending.{spends_refl, spends_trans}
 use Rattle.eqc_apply.proofs.applier.Applier.look_through.Goals as goal
 
 pub loop-pause-init : goal.loop-pause-init
-loop-pause-init g c = let n = c.args.self.now.names in record { kept = keeps_refl (holding_in n); worker = worker_stays n n (extends_stays n n (extends_refl n)); turns = spends_refl n.turns }
+loop-pause-init g c = let n = c.args.self.now.names in record {
+  kept = keeps_refl (holding_in n);
+  worker = worker_stays n n (extends_stays n n (extends_refl n));
+  turns = spends_refl n.turns;
+}
 
 pub loop-pause-preserved : goal.loop-pause-preserved
 loop-pause-preserved g c =
@@ -17,10 +21,13 @@ loop-pause-preserved g c =
     }
 
 pub returns-then-serve_boxes-clause-kept : goal.returns-then-serve_boxes-clause-kept
-returns-then-serve_boxes-clause-kept g c = keeps_trans c.loop-pause.invariant.kept c.serve_boxes.ensures.kept
+returns-then-serve_boxes-clause-kept g c = keeps_trans c.loop-pause.invariant.kept
+    c.serve_boxes.ensures.kept
 
 pub returns-then-serve_boxes-clause-worker : goal.returns-then-serve_boxes-clause-worker
-returns-then-serve_boxes-clause-worker g c = worker_trans c.loop-pause.invariant.worker c.serve_boxes.ensures.worker
+returns-then-serve_boxes-clause-worker g c = worker_trans c.loop-pause.invariant.worker
+    c.serve_boxes.ensures.worker
 
 pub returns-then-serve_boxes-clause-turns : goal.returns-then-serve_boxes-clause-turns
-returns-then-serve_boxes-clause-turns g c = spends_trans c.loop-pause.invariant.turns c.serve_boxes.ensures.turns
+returns-then-serve_boxes-clause-turns g c = spends_trans c.loop-pause.invariant.turns
+    c.serve_boxes.ensures.turns

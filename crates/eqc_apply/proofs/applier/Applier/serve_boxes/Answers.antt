@@ -6,13 +6,19 @@ use Rattle.eqc_plain.proofs.Spending.{spends_refl, spends_trans}
 use Rattle.eqc_apply.proofs.applier.Applier.serve_boxes.Goals as goal
 
 pub loop-nth-init : goal.loop-nth-init
-loop-nth-init g c = let n = c.args.self.now.names in record { kept = keeps_refl (holding_in n); worker = worker_stays n n (extends_stays n n (extends_refl n)); turns = spends_refl n.turns }
+loop-nth-init g c = let n = c.args.self.now.names in record {
+  kept = keeps_refl (holding_in n);
+  worker = worker_stays n n (extends_stays n n (extends_refl n));
+  turns = spends_refl n.turns;
+}
 
 pub returns-then-serve_nth-clause-kept : goal.returns-then-serve_nth-clause-kept
-returns-then-serve_nth-clause-kept g c = keeps_trans c.loop-nth.invariant.kept c.serve_nth.ensures.kept
+returns-then-serve_nth-clause-kept g c = keeps_trans c.loop-nth.invariant.kept
+    c.serve_nth.ensures.kept
 
 pub returns-then-serve_nth-clause-worker : goal.returns-then-serve_nth-clause-worker
-returns-then-serve_nth-clause-worker g c = worker_trans c.loop-nth.invariant.worker c.serve_nth.ensures.worker
+returns-then-serve_nth-clause-worker g c = worker_trans c.loop-nth.invariant.worker
+    c.serve_nth.ensures.worker
 
 pub loop-nth-preserved : goal.loop-nth-preserved
 loop-nth-preserved g c =
@@ -23,4 +29,5 @@ loop-nth-preserved g c =
     }
 
 pub returns-then-serve_nth-clause-turns : goal.returns-then-serve_nth-clause-turns
-returns-then-serve_nth-clause-turns g c = spends_trans c.loop-nth.invariant.turns c.serve_nth.ensures.turns
+returns-then-serve_nth-clause-turns g c = spends_trans c.loop-nth.invariant.turns
+    c.serve_nth.ensures.turns

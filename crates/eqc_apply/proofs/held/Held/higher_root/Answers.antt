@@ -13,7 +13,8 @@ returns-clause-top c =
       arith,
       c.min.ensures,
       root_was n m c.args.f c.root-first.result a.names c.requires.f a.root,
-      root_was n c.root-second.new.self c.args.g c.root-second.result (extends_trans n m c.root-second.new.self a.names b.names) c.requires.g b.root,
+      root_was n c.root-second.new.self c.args.g c.root-second.result
+          (extends_trans n m c.root-second.new.self a.names b.names) c.requires.g b.root,
     )
 
 pub returns-clause-below : goal.returns-clause-below
@@ -25,8 +26,10 @@ returns-clause-below c = λ inner.
     omega (
       arith,
       c.min.ensures,
-      top_few c.args.f c.args.g c.root-first.result c.root-second.result c.args.self.now.variables (λ h. omega (arith, a.inner h, s)) (λ h. omega (arith, b.inner h, s, t)) inner,
+      top_few c.args.f c.args.g c.root-first.result c.root-second.result c.args.self.now.variables
+          (λ h. omega (arith, a.inner h, s)) (λ h. omega (arith, b.inner h, s, t)) inner,
     )
 
 pub returns-clause-names : goal.returns-clause-names
-returns-clause-names c = extends_trans c.args.self.now c.root-first.new.self c.root-second.new.self c.root-first.ensures.names c.root-second.ensures.names
+returns-clause-names c = extends_trans c.args.self.now c.root-first.new.self c.root-second.new.self
+    c.root-first.ensures.names c.root-second.ensures.names

@@ -9,14 +9,17 @@ least-requires-clause-f c = c.in_ok-number.ensures.ok.within
 pub least-requires-clause-within : goal.least-requires-clause-within
 least-requires-clause-within c =
     let P : ℕ → Type 0 = λ n. All (λ v. v < n) c.args.variables.now in
-    subst P (sym (c.in_ok-number.ensures.variables ∙ c.copy.ensures.names.variables)) c.requires.within
+    subst P (sym (c.in_ok-number.ensures.variables ∙ c.copy.ensures.names.variables))
+    c.requires.within
 
 pub least-requires-clause-satisfiable : goal.least-requires-clause-satisfiable
 least-requires-clause-satisfiable c =
     let n = c.args.self.now in
     let m = c.copy.new.names in
     let s = c.copy.new.self.store in
-    copy_satisfiable n s c.args.f c.in_ok-number.number (copy_was n m s c.args.f c.in_ok-number.number c.copy.ensures.names c.requires.held c.in_ok-number.ensures.ok) c.requires.satisfiable
+    copy_satisfiable n s c.args.f c.in_ok-number.number (copy_was n m s c.args.f
+    c.in_ok-number.number c.copy.ensures.names c.requires.held c.in_ok-number.ensures.ok)
+    c.requires.satisfiable
 
 pub least-requires-clause-depends : goal.least-requires-clause-depends
 least-requires-clause-depends c =
@@ -24,7 +27,8 @@ least-requires-clause-depends c =
     let m = c.copy.new.names in
     let s = c.copy.new.self.store in
     copy_depends n s c.args.f c.in_ok-number.number
-    (copy_was n m s c.args.f c.in_ok-number.number c.copy.ensures.names c.requires.held c.in_ok-number.ensures.ok) c.args.variables.now
+    (copy_was n m s c.args.f c.in_ok-number.number c.copy.ensures.names c.requires.held
+    c.in_ok-number.ensures.ok) c.args.variables.now
     c.requires.depends
 
 pub returns-in-Ok-clause-least : goal.returns-in-Ok-clause-least
@@ -32,4 +36,6 @@ returns-in-Ok-clause-least c =
     let n = c.args.self.now in
     let m = c.copy.new.names in
     let s = c.copy.new.self.store in
-    c.in-Ok.ensures ∙ copy_least n s c.args.f c.in_ok-number.number (copy_was n m s c.args.f c.in_ok-number.number c.copy.ensures.names c.requires.held c.in_ok-number.ensures.ok) c.args.variables.now
+    c.in-Ok.ensures ∙ copy_least n s c.args.f c.in_ok-number.number (copy_was n m s c.args.f
+    c.in_ok-number.number c.copy.ensures.names c.requires.held c.in_ok-number.ensures.ok)
+    c.args.variables.now

@@ -8,23 +8,29 @@ use Rattle.eqc_plain.proofs.Spending.{spends_refl}
 use Rattle.eqc_apply.proofs.held.Held.offer.Goals as goal
 
 pub another-first-requires-clause-few : goal.another-first-requires-clause-few
-another-first-requires-clause-few c = let f = few_held c.args.self.now.once c.recall_laws.ensures in omega arith
+another-first-requires-clause-few c = let f = few_held c.args.self.now.once c.recall_laws.ensures in
+    omega arith
 
 pub another-second-requires-clause-held : goal.another-second-requires-clause-held
-another-second-requires-clause-held c = held_still c.another-first.ensures.came c.args.g c.requires.g
+another-second-requires-clause-held c = held_still c.another-first.ensures.came c.args.g
+    c.requires.g
 
 pub another-second-requires-clause-few : goal.another-second-requires-clause-few
-another-second-requires-clause-few c = let f = few_held c.args.self.now.once c.recall_laws.ensures in omega (arith, come_few (c.args.f ∷ []) c.another-first.ensures.came (2 ^ 29) (omega arith))
+another-second-requires-clause-few c = let f = few_held c.args.self.now.once c.recall_laws.ensures
+    in omega (arith, come_few (c.args.f ∷ []) c.another-first.ensures.came (2 ^ 29) (omega arith))
 
 pub put-requires : goal.put-requires
 put-requires c =
     let f = c.another-first.result in
     let g = c.another-second.result in
     let t =
-    pair_comes f.number g.number (as_named c.args.f f.number c.another-first.ensures.name c.another-first.ensures.came)
+    pair_comes f.number g.number (as_named c.args.f f.number c.another-first.ensures.name
+    c.another-first.ensures.came)
     (as_named c.args.g g.number c.another-second.ensures.name c.another-second.ensures.came) in
     let few = few_held c.args.self.now.once c.recall_laws.ensures in
-    come_may (f.number ∷ g.number ∷ []) t c.in-Some.b (Task c.args.op f g) c.args.self.now.once.rest.ready c.in-Some.ensures.1 (omega arith) (omega arith) (come_held (f.number ∷ g.number ∷ []) t)
+    come_may (f.number ∷ g.number ∷ []) t c.in-Some.b (Task c.args.op f g)
+    c.args.self.now.once.rest.ready c.in-Some.ensures.1 (omega arith) (omega arith)
+    (come_held (f.number ∷ g.number ∷ []) t)
 
 pub invariant_of-self : goal.invariant_of-self
 invariant_of-self c =
@@ -32,10 +38,14 @@ invariant_of-self c =
     let g = c.another-second.result in
     let t =
     came_went
-    (pair_comes f.number g.number (as_named c.args.f f.number c.another-first.ensures.name c.another-first.ensures.came)
+    (pair_comes f.number g.number (as_named c.args.f f.number c.another-first.ensures.name
+    c.another-first.ensures.came)
     (as_named c.args.g g.number c.another-second.ensures.name c.another-second.ensures.came))
     c.put.ensures.changes in
-    record { once = has_after t [] [] c.args.self.now.variables c.args.self.now.counts.items (λ y. omega arith) c.args.self.now.once }
+    record {
+      once = has_after t [] [] c.args.self.now.variables c.args.self.now.counts.items
+          (λ y. omega arith) c.args.self.now.once;
+    }
 
 pub returns : goal.returns
 returns c =
@@ -43,7 +53,16 @@ returns c =
     let g = c.another-second.result in
     let t =
     came_went
-    (pair_comes f.number g.number (as_named c.args.f f.number c.another-first.ensures.name c.another-first.ensures.came)
+    (pair_comes f.number g.number (as_named c.args.f f.number c.another-first.ensures.name
+    c.another-first.ensures.came)
     (as_named c.args.g g.number c.another-second.ensures.name c.another-second.ensures.came))
     c.put.ensures.changes in
-    record { forest = t.forest; seat = seat_of t; variables = refl; references = λ y. refl; before = changes_before t; turns = spends_refl c.args.self.now.turns }
+    record {
+      forest = t.forest;
+      seat = seat_of t;
+      variables = refl;
+      references = λ y. refl;
+      before =
+          changes_before t;
+      turns = spends_refl c.args.self.now.turns;
+    }

@@ -10,5 +10,9 @@ pub returns-then-number-refusal-clause-faulty : goal.returns-then-number-refusal
 returns-then-number-refusal-clause-faulty c =
     let text = c.args.text.now in
     let n = c.args.refusal.line in
-    let there : line_at n start (logical_lines text) ≡ Some (c.lines.reader, c.match-whole.line.items) = search rules in
-    has_code 1 n c.args.refusal.code start c.lines.reader c.match-whole.line.items (logical_lines text) (line_numbers_rise text) c.requires.fault there
+    let there : line_at n start (logical_lines text) ≡ Some (
+      c.lines.reader,
+      c.match-whole.line.items,
+    ) = search rules in
+    has_code 1 n c.args.refusal.code start c.lines.reader c.match-whole.line.items
+    (logical_lines text) (line_numbers_rise text) c.requires.fault there

@@ -7,7 +7,8 @@ use Rattle.eqc_blif.proofs.finding.refused_line.go_to_line.Given as goal
 abbrev pub invariant-lines : goal.invariant-lines
 invariant-lines l = record {
   fault : first_fault l.reader (logical l.lines) ≡ Some (l.refusal.line, l.refusal.code);
-  there : line_at l.refusal.line l.reader (logical l.lines) ≡ line_at l.refusal.line start (logical_lines l.text);
+  there : line_at l.refusal.line l.reader (logical l.lines) ≡ line_at l.refusal.line start
+      (logical_lines l.text);
 }
 
 abbrev pub decreases-lines : goal.decreases-lines

@@ -9,9 +9,13 @@ pub returns : goal.returns
 returns c =
     let values = c.in-Some.values.now in
     let same : length values ≡ c.args.columns = omega arith in
-    let valid : list_all is_column_value values ≡ true = sym c.are_column_values.ensures ∙ c.if-not-are_column_values.false in
+    let valid : list_all is_column_value values ≡ true = sym c.are_column_values.ensures
+    ∙ c.if-not-are_column_values.false in
     let whole :
-    (eqb (length values) c.args.columns && (list_all is_column_value values && is_output_value c.in-Some.output.now))
+    (eqb (length values) c.args.columns && (list_all is_column_value values
+    && is_output_value c.in-Some.output.now))
     ≡ is_output_value c.in-Some.output.now =
     rw (eq-eqb (length values) c.args.columns same, valid) refl in
-    c.is_output_value.ensures ∙ sym (row_shape_is c.args.columns c.args.row.now values c.in-Some.output.now c.in-Some.ensures.cases.0 ∙ whole)
+    c.is_output_value.ensures
+    ∙ sym (row_shape_is c.args.columns c.args.row.now values c.in-Some.output.now
+    c.in-Some.ensures.cases.0 ∙ whole)

@@ -10,8 +10,14 @@ returns c = record {
   second = rw c.second.ensures at c.tables_of-2.ensures;
   assumed = elim c.match-assumption.branch [
     | in-Some w ↦
-        rw (w.assumed-is, assumed_of c.args.pair.now w.in-Some.assumption.now (lent_some c.args.pair.now c.assumption.result w.in-Some.assumption c.assumption.ensures w.in-Some.is))
+        rw (
+          w.assumed-is,
+          assumed_of c.args.pair.now w.in-Some.assumption.now
+              (lent_some c.args.pair.now c.assumption.result w.in-Some.assumption c.assumption.ensures
+              w.in-Some.is),
+        )
         w.tables_of-assumed.ensures
-    | in-None w ↦ rw w.assumed-is (tables_none (assumed c.args.pair.now) w.new-assumed.result.entries w.new-assumed.ensures.empty)
+    | in-None w ↦ rw w.assumed-is (tables_none (assumed c.args.pair.now)
+        w.new-assumed.result.entries w.new-assumed.ensures.empty)
   ];
 }

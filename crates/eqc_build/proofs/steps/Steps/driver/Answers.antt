@@ -9,5 +9,8 @@ pub returns : goal.returns
 returns c =
     let side = c.side-side.result in
     let chosen = c.deref.ensures.value ∙ ap (λ (g : StepsOf). g.chosen) c.self.view_is in
-    made_in c.args.self.now side.flat.now (option_copied side.wide) side.tables.now.entries side.variables.now side.places.now side.start side.step c.args.step c.driver_in.result c.side-side.ensures
-    (subst (λ l. IsDriverIn side.flat.now side.variables.now l side.places.now side.start side.step c.driver_in.result) chosen c.driver_in.ensures)
+    made_in c.args.self.now side.flat.now (option_copied side.wide) side.tables.now.entries
+    side.variables.now side.places.now side.start side.step c.args.step c.driver_in.result
+    c.side-side.ensures
+    (subst (λ l. IsDriverIn side.flat.now side.variables.now l side.places.now side.start side.step
+    c.driver_in.result) chosen c.driver_in.ensures)

@@ -8,4 +8,5 @@ pub returns-clause-size : goal.returns-clause-size
 returns-clause-size g c = listed_size c.args.count (get nat_eq c.new.result)
 
 pub returns-clause-none : goal.returns-clause-none
-returns-clause-none g c = listed_none c.args.count (get nat_eq c.new.result) (λ s. ap (lookup (nat_eq s)) c.new.ensures.empty)
+returns-clause-none g c = listed_none c.args.count (get nat_eq c.new.result)
+    (λ s. ap (lookup (nat_eq s)) c.new.ensures.empty)

@@ -5,9 +5,11 @@ use Rattle.eqc_clause.proofs.clauses.Clauses.give_up.Goals as goal
 
 pub returns-then-not-is_empty-clause-gone : goal.returns-then-not-is_empty-clause-gone
 returns-then-not-is_empty-clause-gone c =
-    give_up_at_seen (λ v. v.items) c.self.inside.clauses.items c.args.self.now c.args.number c.new.result c.self.view_is (omega arith) c.new.ensures.items
+    give_up_at_seen (λ v. v.items) c.self.inside.clauses.items c.args.self.now c.args.number
+    c.new.result c.self.view_is (omega arith) c.new.ensures.items
 
 pub returns-then-not-is_empty-clause-sound : goal.returns-then-not-is_empty-clause-sound
 returns-then-not-is_empty-clause-sound c = λ nodes.
     given_up_sound nodes c.args.self.now _ c.args.number
-    (give_up_at_seen (λ v. v.items) c.self.inside.clauses.items c.args.self.now c.args.number c.new.result c.self.view_is (omega arith) c.new.ensures.items)
+    (give_up_at_seen (λ v. v.items) c.self.inside.clauses.items c.args.self.now c.args.number
+    c.new.result c.self.view_is (omega arith) c.new.ensures.items)

@@ -10,7 +10,12 @@ record AreFields (word : ℕ) (p : ℕ × ℕ × ℕ × ℕ) : Type 0 where
   tag : p.0 ≡ operation_of word
   found : p.3 ≡ result_of word
 
-unpacked : (word : ℕ) (p : ℕ × ℕ × ℕ × ℕ) → p ≡ (cell_tag word, cell_first word, cell_second word, cell_result word) → AreFields word p
+unpacked : (word : ℕ) (p : ℕ × ℕ × ℕ × ℕ) → p ≡ (
+  cell_tag word,
+  cell_first word,
+  cell_second word,
+  cell_result word,
+) → AreFields word p
 unfolding operation_of result_of
 unpacked word p e = record { tag = ap (λ q. q.0) e; found = ap (λ q. q.3) e }
 
@@ -27,7 +32,8 @@ returns-then-tag-le-LAST_OPERATION c =
     let low = c.if-tag-le-LAST_OPERATION.true in
     let some_word : c.args.word ≢ 0 = λ e. (let nz = c.if-word-eq0.false in absurd (omega arith)) in (
       (λ t. inl (inr (c.is_filled.ensures.0 t))),
-      (λ b. c.is_filled.ensures.1 (low_box c.args.self.now.nodes.items c.args.word some_word (omega arith) b)),
+      (λ b. c.is_filled.ensures.1 (low_box c.args.self.now.nodes.items c.args.word some_word
+          (omega arith) b)),
     )
 
 pub returns-then-r-ne0 : goal.returns-then-r-ne0
@@ -37,7 +43,8 @@ returns-then-r-ne0 c =
     let high = c.if-tag-le-LAST_OPERATION.false in
     let some_word : c.args.word ≢ 0 = λ e. (let nz = c.if-word-eq0.false in absurd (omega arith)) in (
       (λ t. absurd (cc)),
-      (λ b. absurd (c.if-r-ne0.true (is.found ∙ (high_box c.args.self.now.nodes.items c.args.word some_word (omega arith) b).0))),
+      (λ b. absurd (c.if-r-ne0.true (is.found
+          ∙ (high_box c.args.self.now.nodes.items c.args.word some_word (omega arith) b).0))),
     )
 
 pub returns-then-tag-le-LAST_TASK : goal.returns-then-tag-le-LAST_TASK
@@ -46,7 +53,12 @@ returns-then-tag-le-LAST_TASK c =
     let tag = is.tag in
     let high = c.if-tag-le-LAST_OPERATION.false in
     let low = c.if-tag-le-LAST_TASK.true in (
-      (λ t. inr (inl (record { from = omega arith; upto = omega arith; no_result = sym is.found ∙ c.if-r-ne0.false }))),
+      (λ t. inr (inl (record {
+        from = omega arith;
+        upto = omega arith;
+        no_result = sym is.found
+            ∙ c.if-r-ne0.false;
+      }))),
       (λ b. refl),
     )
 
@@ -57,9 +69,15 @@ returns c =
     let high = c.if-tag-le-LAST_TASK.false in
     let some_word : c.args.word ≢ 0 = λ e. (let nz = c.if-word-eq0.false in absurd (omega arith)) in
     let stops : operation_of c.args.word < 16 = few c.args.word (c.ranges.word.fits) in (
-      (λ t. inr (inr (record { from = (let l = leb-true 13 c.unpack_cell-tag.result.0 t in omega arith); upto = stops; no_result = sym is.found ∙ c.if-r-ne0.false }))),
+      (λ t. inr (inr (record {
+        from = (let l = leb-true 13 c.unpack_cell-tag.result.0 t in
+            omega arith);
+        upto = stops;
+        no_result = sym is.found ∙ c.if-r-ne0.false;
+      }))),
       (λ b.
           le-leb 13 c.unpack_cell-tag.result.0
-          (⊎_elim (λ (l : operation_of c.args.word < 9). absurd (omega arith)) (λ (l : 12 < operation_of c.args.word). omega arith)
+          (⊎_elim (λ (l : operation_of c.args.word < 9). absurd (omega arith))
+          (λ (l : 12 < operation_of c.args.word). omega arith)
           (high_box c.args.self.now.nodes.items c.args.word some_word (omega arith) b).1)),
     )

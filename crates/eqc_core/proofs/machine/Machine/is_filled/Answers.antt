@@ -15,9 +15,20 @@ record AreFields (word : ℕ) (p : ℕ × ℕ × ℕ × ℕ) : Type 0 where
   second : p.2 ≡ second_of word
   found : p.3 ≡ result_of word
 
-unpacked : (word : ℕ) (p : ℕ × ℕ × ℕ × ℕ) → p ≡ (cell_tag word, cell_first word, cell_second word, cell_result word) → AreFields word p
+unpacked : (word : ℕ) (p : ℕ × ℕ × ℕ × ℕ) → p ≡ (
+  cell_tag word,
+  cell_first word,
+  cell_second word,
+  cell_result word,
+) → AreFields word p
 unfolding operation_of first_of second_of result_of
-unpacked word p e = record { tag = ap (λ q. q.0) e; first = ap (λ q. q.1) e; second = ap (λ q. q.2) e; found = ap (λ q. q.3) e }
+unpacked word p e = record {
+  tag = ap (λ q. q.0) e;
+  first = ap (λ q. q.1) e;
+  second =
+      ap (λ q. q.2) e;
+  found = ap (λ q. q.3) e;
+}
 
 pub agrees-requires-clause-f : goal.agrees-requires-clause-f
 agrees-requires-clause-f c =
@@ -39,8 +50,11 @@ agrees-requires-clause-r c =
 
 pub returns-in_default : goal.returns-in_default
 returns-in_default c =
-    let is = unpacked c.args.word c.unpack_cell-tag.result c.unpack_cell-tag.ensures.fields in
-    ((λ h. absurd (cc)), (λ f. absurd (c.in_default.ensures.none f.operation (sym (is.tag ∙ f.tag)))))
+    let is = unpacked c.args.word c.unpack_cell-tag.result c.unpack_cell-tag.ensures.fields in (
+      (λ h. absurd (cc)),
+      (λ f. absurd (c.in_default.ensures.none f.operation (sym (is.tag
+          ∙ f.tag)))),
+    )
 
 pub returns : goal.returns
 returns c =
@@ -51,8 +65,14 @@ returns c =
     let op = c.in-Some.op in
     let is = unpacked word c.unpack_cell-tag.result c.unpack_cell-tag.ensures.fields in
     let tag : operation_of word ≡ tag_of op = sym (c.in-Some.ensures.found ∙ is.tag) in
-    let same : (x y k q l m : ℕ) → x ≡ q → y ≡ l → k ≡ m → Agrees nodes op x y k → Agrees nodes op q l m =
-    λ x y k q l m e f g h. subst (λ (n : ℕ). Agrees nodes op n l m) e (subst (λ (n : ℕ). Agrees nodes op x n m) f (subst (λ (n : ℕ). Agrees nodes op x y n) g h)) in (
-      (λ h. agrees_filled s.sizes s.words s.homes s.views law word op tag c.requires.first c.requires.second c.requires.outcome (same _ _ _ _ _ _ is.first is.second is.found (c.agrees.ensures.0 h))),
-      (λ f. c.agrees.ensures.1 (same _ _ _ _ _ _ (sym is.first) (sym is.second) (sym is.found) (filled_agrees s.sizes s.words s.homes s.views law word op tag f))),
+    let same : (x y k q l m : ℕ) → x ≡ q → y ≡ l → k ≡ m → Agrees nodes op x y k
+    → Agrees nodes op q l m =
+    λ x y k q l m e f g h. subst (λ (n : ℕ). Agrees nodes op n l m) e
+    (subst (λ (n : ℕ). Agrees nodes op x n m) f (subst (λ (n : ℕ). Agrees nodes op x y n) g h))
+    in (
+      (λ h. agrees_filled s.sizes s.words s.homes s.views law word op tag c.requires.first
+          c.requires.second c.requires.outcome (same _ _ _ _ _ _ is.first is.second is.found
+          (c.agrees.ensures.0 h))),
+      (λ f. c.agrees.ensures.1 (same _ _ _ _ _ _ (sym is.first) (sym is.second) (sym is.found)
+          (filled_agrees s.sizes s.words s.homes s.views law word op tag f))),
     )

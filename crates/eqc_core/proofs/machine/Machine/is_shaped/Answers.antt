@@ -59,5 +59,13 @@ returns c =
     let q = c.variable_at-2.ensures in
     let h = c.if-variable-self.false in
     let i = c.if-variable-variable_at.false in
-    let j = c.if-variable-variable_at-2.false in
-    ((λ t. record { few = omega arith; above_low = omega arith; above_high = omega arith; differ = λ s. c.if-low-high.false (sym f.low_is ∙ (s ∙ f.high_is)) }), (λ s. refl))
+    let j = c.if-variable-variable_at-2.false in (
+      (λ t. record {
+        few = omega arith;
+        above_low = omega arith;
+        above_high = omega arith;
+        differ =
+            λ s. c.if-low-high.false (sym f.low_is ∙ (s ∙ f.high_is));
+      }),
+      (λ s. refl),
+    )

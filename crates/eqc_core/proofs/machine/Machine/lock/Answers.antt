@@ -12,9 +12,11 @@ returns-then-not-won c =
     let m = c.args.self.now in
     let s = state_of m in
     let e : c.args.won ≡ false = (let a = c.if-not-won.true in cc) in
-    subst (λ (b : Bool). s ≡ after s (record { worker = c.args.id; step = Lock c.args.i b })) (sym e)
+    subst (λ (b : Bool). s ≡ after s (record { worker = c.args.id; step = Lock c.args.i b }))
+    (sym e)
     (stepped s s.words s.words s.views (set s.views c.args.id (view_at s.views c.args.id)) refl
-    (sym (set_again s.views c.args.id (view_at s.views c.args.id) (turn_there m c.args.id c.requires.turn))))
+    (sym (set_again s.views c.args.id (view_at s.views c.args.id) (turn_there m c.args.id
+    c.requires.turn))))
 
 pub win_lock-requires-clause-may : goal.win_lock-requires-clause-may
 win_lock-requires-clause-may c =
@@ -26,4 +28,8 @@ pub returns : goal.returns
 returns c =
     let s = state_of c.args.self.now in
     let e : c.args.won ≡ true = (let a = c.if-not-won.false in cc) in
-    subst (λ (b : Bool). state_of c.win_lock.new.self ≡ after s (record { worker = c.args.id; step = Lock c.args.i b })) (sym e) c.win_lock.ensures
+    subst (λ (b : Bool). state_of c.win_lock.new.self ≡ after s (record {
+      worker = c.args.id;
+      step =
+          Lock c.args.i b;
+    })) (sym e) c.win_lock.ensures

@@ -9,4 +9,6 @@ pub returns : goal.returns
 returns c =
     let m = c.args.self.now in
     let s = state_of m in
-    stepped s s.words s.words s.views (set s.views c.args.id (view_at s.views c.args.id)) refl (sym (set_again s.views c.args.id (view_at s.views c.args.id) (turn_there m c.args.id c.requires)))
+    stepped s s.words s.words s.views (set s.views c.args.id (view_at s.views c.args.id)) refl
+    (sym (set_again s.views c.args.id (view_at s.views c.args.id) (turn_there m c.args.id
+    c.requires)))

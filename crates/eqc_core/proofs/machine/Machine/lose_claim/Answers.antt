@@ -8,6 +8,8 @@ pub returns : goal.returns
 returns c =
     let m = c.args.self.now in
     let t =
-    turned m.sizes m.workers.items c.args.id c.index_mut-worker.result.now c.find_taken.new.self (λ v. found_taken v c.args.x)
-    c.requires.turn.there c.index_mut-worker.ensures.value c.requires.turn.active c.in_ok-find_taken.ensures in
+    turned m.sizes m.workers.items c.args.id c.index_mut-worker.result.now c.find_taken.new.self
+    (λ v. found_taken v c.args.x)
+    c.requires.turn.there c.index_mut-worker.ensures.value c.requires.turn.active
+    c.in_ok-find_taken.ensures in
     stepped (state_of m) (words_of m) (words_of m) _ _ refl t

@@ -5,5 +5,8 @@ use Rattle.eqc_core.proofs.machine.Machine.may.Goals as goal
 
 pub worker_may-requires-clause-stands : goal.worker_may-requires-clause-stands
 worker_may-requires-clause-stands c =
-    let m = c.args.self.now in
-    (c.args.id, turn_there m c.args.id c.requires ∙ ap some (turn_view m c.args.id c.index.result.now c.requires c.index.ensures))
+    let m = c.args.self.now in (
+      c.args.id,
+      turn_there m c.args.id c.requires
+          ∙ ap some (turn_view m c.args.id c.index.result.now c.requires c.index.ensures),
+    )

@@ -7,7 +7,8 @@ use Rattle.eqc_core.proofs.Stored.{turned, stepped, box_there}
 use Rattle.eqc_core.proofs.machine.Machine.swap_box.Goals as goal
 
 pub index-old-requires : goal.index-old-requires
-index-old-requires c = let h = box_there c.args.self.now c.args.id c.args.b c.requires.turn c.requires.may.1 in omega arith
+index-old-requires c = let h = box_there c.args.self.now c.args.id c.args.b c.requires.turn
+    c.requires.may.1 in omega arith
 
 pub returns : goal.returns
 returns c =
@@ -15,7 +16,10 @@ returns c =
     let vs = (state_of m).views in
     let t =
     turned m.sizes m.workers.items c.args.id c.index_mut-worker.result.now c.swap_box.new.self
-    (λ v. boxed v c.index-old.result.now c.args.word) c.requires.turn.there c.index_mut-worker.ensures.value c.requires.turn.active
+    (λ v. boxed v c.index-old.result.now c.args.word) c.requires.turn.there
+    c.index_mut-worker.ensures.value c.requires.turn.active
     c.in_ok-swap_box.ensures in
-    let old = get_or_read m.boxes.items c.args.b c.index-old.result.now (box_there m c.args.id c.args.b c.requires.turn c.requires.may.1) c.index-old.ensures 0 in
-    stepped (state_of m) _ _ _ _ refl (t ∙ ap (λ n. set vs c.args.id (boxed (view_at vs c.args.id) n c.args.word)) old)
+    let old = get_or_read m.boxes.items c.args.b c.index-old.result.now (box_there m c.args.id
+    c.args.b c.requires.turn c.requires.may.1) c.index-old.ensures 0 in
+    stepped (state_of m) _ _ _ _ refl (t
+    ∙ ap (λ n. set vs c.args.id (boxed (view_at vs c.args.id) n c.args.word)) old)

@@ -12,9 +12,14 @@ index_mut-requires c =
     let m = c.args.self.now in
     let s = state_of m in
     let v = view_at s.views c.args.id in
-    let d = draft_is s.sizes s.words s.homes s.views c.args.id v c.requires.turn.kept.lawful (turn_there m c.args.id c.requires.turn) c.requires.turn.active (draft_of v.draft) c.requires.may.1 in
+    let d = draft_is s.sizes s.words s.homes s.views c.args.id v c.requires.turn.kept.lawful
+    (turn_there m c.args.id c.requires.turn) c.requires.turn.active (draft_of v.draft)
+    c.requires.may.1 in
     let lt = d.1 in
-    let is = c.unclaim-d.ensures.draft ∙ ap (λ (u : View). draft_of u.draft) (sym (turn_view m c.args.id c.index_mut-worker.result.now c.requires.turn c.index_mut-worker.ensures.value)) in
+    let is = c.unclaim-d.ensures.draft
+    ∙ ap (λ (u : View). draft_of u.draft)
+    (sym (turn_view m c.args.id c.index_mut-worker.result.now c.requires.turn
+    c.index_mut-worker.ensures.value)) in
     let n = c.requires.turn.kept.lawful.sized.counts in
     omega arith
 
@@ -22,7 +27,11 @@ pub returns : goal.returns
 returns c =
     let m = c.args.self.now in
     let t =
-    turned m.sizes m.workers.items c.args.id c.index_mut-worker.result.now c.unclaim-d.new.self unclaimed c.requires.turn.there
+    turned m.sizes m.workers.items c.args.id c.index_mut-worker.result.now c.unclaim-d.new.self
+    unclaimed c.requires.turn.there
     c.index_mut-worker.ensures.value c.requires.turn.active c.unclaim-d.ensures.turns in
-    let is = c.unclaim-d.ensures.draft ∙ ap (λ (u : View). draft_of u.draft) (sym (turn_view m c.args.id c.index_mut-worker.result.now c.requires.turn c.index_mut-worker.ensures.value)) in
+    let is = c.unclaim-d.ensures.draft
+    ∙ ap (λ (u : View). draft_of u.draft)
+    (sym (turn_view m c.args.id c.index_mut-worker.result.now c.requires.turn
+    c.index_mut-worker.ensures.value)) in
     stepped (state_of m) _ _ _ _ (ap (λ k. with_count (words_of m) k 0) is) t

@@ -32,7 +32,11 @@ returns c =
     let v = view_at s.views id in
     let is = sym c.requires.may.1 in
     let t =
-    turned m.sizes m.workers.items id c.index_mut-worker.result.now c.unlock-table.new.self unlocked c.requires.turn.there
+    turned m.sizes m.workers.items id c.index_mut-worker.result.now c.unlock-table.new.self unlocked
+    c.requires.turn.there
     c.index_mut-worker.ensures.value c.requires.turn.active c.unlock-table.ensures.turns in
-    let table = c.unlock-table.ensures.table ∙ ap (λ (u : View). (hand_of u.hand).entries) (sym (turn_view m id c.index_mut-worker.result.now c.requires.turn c.index_mut-worker.ensures.value)) in
-    stepped_home s _ _ _ _ _ _ (ap (λ k. with_lock (words_of m) k 0) is) (c.put_home.ensures ∙ (λ k. set s.homes (is k) (some (table k)))) t
+    let table = c.unlock-table.ensures.table ∙ ap (λ (u : View). (hand_of u.hand).entries)
+    (sym (turn_view m id c.index_mut-worker.result.now c.requires.turn
+    c.index_mut-worker.ensures.value)) in
+    stepped_home s _ _ _ _ _ _ (ap (λ k. with_lock (words_of m) k 0) is) (c.put_home.ensures
+    ∙ (λ k. set s.homes (is k) (some (table k)))) t

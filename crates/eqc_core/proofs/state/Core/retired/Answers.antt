@@ -8,4 +8,5 @@ use Rattle.eqc_core.proofs.state.Core.retired.Goals as goal
 pub returns-in-None : goal.returns-in-None
 returns-in-None c =
     let none = (c.active.ensures.none c.in-None.is).1 in
-    sym (ap (λ (t : State). times c.args.x (view_at t.views c.args.worker).retired) (sym c.self.view_is) ∙ (ap (times c.args.x) none ∙ times-nil c.args.x))
+    sym (ap (λ (t : State). times c.args.x (view_at t.views c.args.worker).retired)
+    (sym c.self.view_is) ∙ (ap (times c.args.x) none ∙ times-nil c.args.x))

@@ -15,5 +15,6 @@ returns c =
     let n = node_stripe c.args.variable c.args.low c.args.high c.requires.low c.requires.high in
     let t = c.args.self.now.table.entries.items in
     let e = ap (λ (k : ℕ). table_word k t) c.pack_node.ensures in
-    let q = none_there c.has_word.result (table_word c.pack_node.result t) c.has_word.ensures.0 c.has_word.ensures.1 in
+    let q = none_there c.has_word.result (table_word c.pack_node.result t) c.has_word.ensures.0
+    c.has_word.ensures.1 in
     ((λ k. (sym (n ∙ c.if-stripe-self.false), sym e ∙ q.0 k)), (λ r. q.1 (e ∙ r.1)))

@@ -13,8 +13,11 @@ are_quiet ps = (k : ℕ) (p : Phase) → get_elem? ps k ≡ some p → IsQuiet p
 pub returns-then-self-eq0 : goal.returns-then-self-eq0
 returns-then-self-eq0 c = λ z.
     let w = c.args.self.now in
-    let draft : w.draft ≡ None = is_none w.draft (let a = c.is_some.ensures in let b = c.if-is_some.false in cc) in
-    let hand : w.hand ≡ None = is_none w.hand (let a = c.is_some-2.ensures in let b = c.if-is_some-2.false in cc) in (
-      (λ t. at_rest z w c.if-self-eq0.true (subst are_quiet c.deref.ensures.value (c.are_quiet.ensures.0 t)) draft hand),
+    let draft : w.draft ≡ None = is_none w.draft (let a = c.is_some.ensures in let b =
+    c.if-is_some.false in cc) in
+    let hand : w.hand ≡ None = is_none w.hand (let a = c.is_some-2.ensures in let b =
+    c.if-is_some-2.false in cc) in (
+      (λ t. at_rest z w c.if-self-eq0.true (subst are_quiet c.deref.ensures.value
+          (c.are_quiet.ensures.0 t)) draft hand),
       (λ r. c.are_quiet.ensures.1 (subst are_quiet (sym c.deref.ensures.value) r.quiet)),
     )

@@ -8,5 +8,6 @@ returns c =
     λ y.
     record {
       active = c.forget.ensures.active ∙ (c.in_ok-take_in.ensures y).active;
-      view = λ z. c.forget.ensures.view z ∙ ap (λ (v : View). with_held v v.held) ((c.in_ok-take_in.ensures y).view z);
+      view = λ z. c.forget.ensures.view z
+          ∙ ap (λ (v : View). with_held v v.held) ((c.in_ok-take_in.ensures y).view z);
     }

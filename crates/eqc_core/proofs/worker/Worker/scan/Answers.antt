@@ -11,8 +11,10 @@ returns-clause-view c =
     let z = c.args.sizes in
     let v = active_view z c.args.self.now in
     let last : ltb (c.args.self.now.position + 1) (announced_words z) ≡ false =
-    le-ltb (c.args.self.now.position + 1) (announced_words z) (let a = c.announced_words.ensures in let b = c.if-self-announced_words.false in omega arith) in
+    le-ltb (c.args.self.now.position + 1) (announced_words z) (let a = c.announced_words.ensures in
+    let b = c.if-self-announced_words.false in omega arith) in
     rw last
     (c.forget.ensures.view z
     ∙ (ap (λ (u : View). with_held u u.held) (c.in_ok-sort_out.ensures.view z)
-    ∙ ap (λ n. with_held (sorted_out (record v { noted = n })) (sorted_out (record v { noted = n })).held) c.in_ok-add_note.ensures))
+    ∙ ap (λ n. with_held (sorted_out (record v { noted = n }))
+    (sorted_out (record v { noted = n })).held) c.in_ok-add_note.ensures))

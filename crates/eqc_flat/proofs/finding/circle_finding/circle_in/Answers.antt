@@ -13,11 +13,13 @@ pub named_circle-requires-clause-within : goal.named_circle-requires-clause-with
 named_circle-requires-clause-within c =
     let P : List ℕ → Type 0 = λ l. IsTrailBelow c.args.hierarchy.now.0 c.args.hierarchy.now.1 l in
     let trail = subst P (sym c.deref.ensures.value) c.in_ok-trail.ensures in
-    walk_inside c.args.hierarchy.now.0 c.args.hierarchy.now.1 trail.0 c.deref.result.now trail.1 trail.2
+    walk_inside c.args.hierarchy.now.0 c.args.hierarchy.now.1 trail.0 c.deref.result.now trail.1
+    trail.2
 
 pub returns : goal.returns
 returns c =
     let P : List ℕ → Type 0 = λ l. IsTrailBelow c.args.hierarchy.now.0 c.args.hierarchy.now.1 l in
     let trail = subst P (sym c.deref.ensures.value) c.in_ok-trail.ensures in
     let (start, before, again, is) = c.in_ok-circle.ensures in
-    circle_named c.args.hierarchy.now.0 c.args.hierarchy.now.1 trail.0 c.deref.result.now start c.in_ok-circle.circle trail.1 trail.2 before again is
+    circle_named c.args.hierarchy.now.0 c.args.hierarchy.now.1 trail.0 c.deref.result.now start
+    c.in_ok-circle.circle trail.1 trail.2 before again is

@@ -6,10 +6,12 @@ use Rattle.eqc_flat.proofs.FindingLaws.{driven_numbered}
 use Rattle.eqc_flat.proofs.finding.driver_findings.driven_below.Goals as goal
 
 pub expanded_below-requires-clause-ends : goal.expanded_below-requires-clause-ends
-expanded_below-requires-clause-ends c = (driven_numbered c.args.driven c.args.library.now c.args.top c.requires.refused).not_recursive
+expanded_below-requires-clause-ends c = (driven_numbered c.args.driven c.args.library.now c.args.top
+    c.requires.refused).not_recursive
 
 pub expanded_below-requires-clause-small : goal.expanded_below-requires-clause-small
-expanded_below-requires-clause-small c = (driven_numbered c.args.driven c.args.library.now c.args.top c.requires.refused).small
+expanded_below-requires-clause-small c =
+    (driven_numbered c.args.driven c.args.library.now c.args.top c.requires.refused).small
 
 pub driven_named-requires-clause-refused : goal.driven_named-requires-clause-refused
 driven_named-requires-clause-refused c =
@@ -18,5 +20,6 @@ driven_named-requires-clause-refused c =
 
 pub returns : goal.returns
 returns c =
-    let P : List ModelOf × ℕ → Type 0 = λ v. IfOk c.driven_named.result (λ name. NamesDriven c.args.driven v.0 v.1 name) in
+    let P : List ModelOf × ℕ → Type 0 =
+    λ v. IfOk c.driven_named.result (λ name. NamesDriven c.args.driven v.0 v.1 name) in
     subst P c.in_ok-hierarchy.ensures.same c.driven_named.ensures

@@ -6,5 +6,6 @@ use Rattle.eqc_flat.proofs.hierarchy.Hierarchy.all_signals.Goals as goal
 pub loop-i-preserved : goal.loop-i-preserved
 loop-i-preserved c =
     c.in_ok-push_signals.ensures
-    ∙ (ap (λ (xs : List (ℕ × List ℕ)). xs ++ named_here c.args.self.now.0 c.args.self.now.1 c.loop-i.i) c.loop-i.invariant
+    ∙ (ap (λ (xs : List (ℕ × List ℕ)). xs ++ named_here c.args.self.now.0 c.args.self.now.1
+    c.loop-i.i) c.loop-i.invariant
     ∙ sym (range_more (named_here c.args.self.now.0 c.args.self.now.1) c.loop-i.i))

@@ -11,7 +11,8 @@ invariant_of-result c =
     let found = rw c.in-Some.is at c.in_ok-instances.ensures in
     let top : c.in-Some.instances.top ≡ c.args.top = found.1 in
     let P : ℕ → Type 0 = λ t.
-    IsExpanded c.args.calls c.args.naming.now t c.in-Some.instances.models.items c.in-Some.instances.firsts.items
+    IsExpanded c.args.calls c.args.naming.now t c.in-Some.instances.models.items
+    c.in-Some.instances.firsts.items
     c.in-Some.instances.places.items c.in-Some.instances.signals in
     subst P (sym top) (record {
       same = c.requires.named;

@@ -10,5 +10,6 @@ returns-clause-count c =
     let all = c.self.inside.instances in
     let P : List ModelOf × ℕ → Type 0 = λ v. all.signals ≡ length (signals v.0 v.1) in
     subst P c.self.view_is
-    (found_signals c.self.inside.calls all.top (length (paths c.self.inside.calls all.top)) all.signals all.models.items
+    (found_signals c.self.inside.calls all.top (length (paths c.self.inside.calls all.top))
+    all.signals all.models.items
     all.firsts.items all.places.items c.self.invariant.found refl)

@@ -12,5 +12,9 @@ are_silent ps = (k : ℕ) (p : Phase) → 0 < k → get_elem? ps k ≡ some p �
 
 pub returns : goal.returns
 returns c =
-    let same : c.args.self.now.known.core.phases ≡ c.self.inside.phases.items = subst (λ (s : Standing). s.known.core.phases ≡ c.self.inside.phases.items) c.self.view_is c.self.invariant.phases_are in
-    ((λ t. subst are_silent (sym same) (c.are_silent.ensures.0 t)), (λ silent. c.are_silent.ensures.1 (subst are_silent same silent)))
+    let same : c.args.self.now.known.core.phases ≡ c.self.inside.phases.items =
+    subst (λ (s : Standing). s.known.core.phases ≡ c.self.inside.phases.items) c.self.view_is
+    c.self.invariant.phases_are in (
+      (λ t. subst are_silent (sym same) (c.are_silent.ensures.0 t)),
+      (λ silent. c.are_silent.ensures.1 (subst are_silent same silent)),
+    )

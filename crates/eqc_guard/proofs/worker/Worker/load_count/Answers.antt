@@ -12,9 +12,13 @@ load-requires c =
     let me = c.self.inside.seat.me in
     let v = sym c.self.view_is in
     let at : c.count_word-word.result ≡ counts_from me.0.core.sizes + c.args.name =
-    subst (λ (s : Standing). c.count_word-word.result ≡ counts_from s.known.core.sizes + c.args.name) v c.count_word-word.ensures in
-    let there : c.args.name < me.0.core.sizes.names = subst (λ (s : Standing). c.args.name < s.known.core.sizes.names) v c.requires in (
+    subst (λ (s : Standing). c.count_word-word.result ≡ counts_from s.known.core.sizes
+    + c.args.name) v c.count_word-word.ensures in
+    let there : c.args.name < me.0.core.sizes.names = subst (λ (s : Standing). c.args.name
+    < s.known.core.sizes.names) v c.requires in (
       rw c.deref.ensures is.one_table,
-      rw (c.deref.ensures, is.worker.words) (let e = ap announced_words is.worker.sizes in let f = ap (λ (z : Sizes). z.names) is.worker.sizes in omega arith),
-      read_allows c.deref.result.now.shared.key.sizes c.deref.result.now.shared.table_id.slots c.self.inside.seat.id c.count_word-word.result me is.worker.active,
+      rw (c.deref.ensures, is.worker.words) (let e = ap announced_words is.worker.sizes in let f =
+          ap (λ (z : Sizes). z.names) is.worker.sizes in omega arith),
+      read_allows c.deref.result.now.shared.key.sizes c.deref.result.now.shared.table_id.slots
+          c.self.inside.seat.id c.count_word-word.result me is.worker.active,
     )

@@ -14,14 +14,18 @@ loop-k-preserved c = elim c.if-load_count-gt0.branch [
     exact = λ ws has.
         let before = c.loop-k.invariant.exact ws has in
         let read =
-        read_stays c.loop-k.self.known c.load_count.new.self.known (counts_from c.loop-k.self.known.core.sizes + (c.loop-k.k + 2))
+        read_stays c.loop-k.self.known c.load_count.new.self.known
+        (counts_from c.loop-k.self.known.core.sizes + (c.loop-k.k + 2))
         c.load_count.result ws c.load_count.ensures.copies before.0 in
-        let place : counts_from c.loop-k.self.known.core.sizes + (c.loop-k.k + 2) ≡ counts_from c.args.self.now.known.core.sizes + 2 + c.loop-k.k =
+        let place : counts_from c.loop-k.self.known.core.sizes + (c.loop-k.k + 2)
+        ≡ counts_from c.args.self.now.known.core.sizes + 2 + c.loop-k.k =
         let e = ap (λ (v : View). announced_words v.sizes) c.loop-k.invariant.core in
         omega arith in
-        let found : get_or ws (counts_from c.args.self.now.known.core.sizes + 2 + c.loop-k.k) 0 ≡ c.load_count.result = ap (λ (i : ℕ). get_or ws i 0) (sym place) ∙ read.1 in (
+        let found : get_or ws (counts_from c.args.self.now.known.core.sizes + 2 + c.loop-k.k) 0
+        ≡ c.load_count.result = ap (λ (i : ℕ). get_or ws i 0) (sym place) ∙ read.1 in (
           read.0,
-          counts_one ws (counts_from c.args.self.now.known.core.sizes + 2) c.loop-k.k c.if-load_count-gt0.counted c.loop-k.counted before.1
+          counts_one ws (counts_from c.args.self.now.known.core.sizes + 2) c.loop-k.k
+              c.if-load_count-gt0.counted c.loop-k.counted before.1
               (let t = w.if-load_count-gt0.true in omega arith) w.counted-is,
         );
   }
@@ -31,14 +35,18 @@ loop-k-preserved c = elim c.if-load_count-gt0.branch [
     exact = λ ws has.
         let before = c.loop-k.invariant.exact ws has in
         let read =
-        read_stays c.loop-k.self.known c.load_count.new.self.known (counts_from c.loop-k.self.known.core.sizes + (c.loop-k.k + 2))
+        read_stays c.loop-k.self.known c.load_count.new.self.known
+        (counts_from c.loop-k.self.known.core.sizes + (c.loop-k.k + 2))
         c.load_count.result ws c.load_count.ensures.copies before.0 in
-        let place : counts_from c.loop-k.self.known.core.sizes + (c.loop-k.k + 2) ≡ counts_from c.args.self.now.known.core.sizes + 2 + c.loop-k.k =
+        let place : counts_from c.loop-k.self.known.core.sizes + (c.loop-k.k + 2)
+        ≡ counts_from c.args.self.now.known.core.sizes + 2 + c.loop-k.k =
         let e = ap (λ (v : View). announced_words v.sizes) c.loop-k.invariant.core in
         omega arith in
-        let found : get_or ws (counts_from c.args.self.now.known.core.sizes + 2 + c.loop-k.k) 0 ≡ c.load_count.result = ap (λ (i : ℕ). get_or ws i 0) (sym place) ∙ read.1 in (
+        let found : get_or ws (counts_from c.args.self.now.known.core.sizes + 2 + c.loop-k.k) 0
+        ≡ c.load_count.result = ap (λ (i : ℕ). get_or ws i 0) (sym place) ∙ read.1 in (
           read.0,
-          counts_none ws (counts_from c.args.self.now.known.core.sizes + 2) c.loop-k.k c.if-load_count-gt0.counted c.loop-k.counted before.1
+          counts_none ws (counts_from c.args.self.now.known.core.sizes + 2) c.loop-k.k
+              c.if-load_count-gt0.counted c.loop-k.counted before.1
               (let t = w.if-load_count-gt0.false in omega arith) w.counted-is,
         );
   }

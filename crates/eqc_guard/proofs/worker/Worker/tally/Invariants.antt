@@ -7,5 +7,6 @@ abbrev pub invariant-loop-k : goal.invariant-loop-k
 invariant-loop-k l = record {
   core : l.self.known.core ≡ l.fn.self.known.core;
   few : l.counted ≤ l.k;
-  exact : (ws : List ℕ) → l.fn.self.known.copy ≡ Some ws → (l.self.known.copy ≡ Some ws) × (l.counted ≡ above_zero ws (counts_from l.fn.self.known.core.sizes + 2) l.k);
+  exact : (ws : List ℕ) → l.fn.self.known.copy ≡ Some ws → (l.self.known.copy ≡ Some ws)
+      × (l.counted ≡ above_zero ws (counts_from l.fn.self.known.core.sizes + 2) l.k);
 }

@@ -14,9 +14,17 @@ pub exchange-blank-requires : goal.exchange-blank-requires
 exchange-blank-requires c =
     let is = c.self.invariant in
     let me = c.self.inside.seat.me in
-    let home : MayHome me.0.core c.args.stripe c.args.map.entries = subst (λ (s : Standing). MayHome s.known.core c.args.stripe c.args.map.entries) (sym c.self.view_is) c.requires in
-    let one = carries_one me home.0 is.carries home.2.1 in
-    (rw c.deref.ensures is.one_table, (one.0, one.1 ∙ (λ j. (home.1 j, one.0) ∷ rest (sym one.1 j))))
+    let home : MayHome me.0.core c.args.stripe c.args.map.entries =
+    subst (λ (s : Standing). MayHome s.known.core c.args.stripe c.args.map.entries)
+    (sym c.self.view_is) c.requires in
+    let one = carries_one me home.0 is.carries home.2.1 in (
+      rw c.deref.ensures is.one_table,
+      (
+        one.0,
+        one.1
+            ∙ (λ j. (home.1 j, one.0) ∷ rest (sym one.1 j)),
+      ),
+    )
 
 pub store-requires : goal.store-requires
 store-requires c =
@@ -25,18 +33,26 @@ store-requires c =
     let out = c.exchange-blank.new.seat.me in
     let e = c.exchange-blank.ensures in
     let v = sym c.self.view_is in
-    let home : MayHome me.0.core c.args.stripe c.args.map.entries = subst (λ (s : Standing). MayHome s.known.core c.args.stripe c.args.map.entries) v c.requires in
+    let home : MayHome me.0.core c.args.stripe c.args.map.entries =
+    subst (λ (s : Standing). MayHome s.known.core c.args.stripe c.args.map.entries) v c.requires
+    in
     let one = carries_one me home.0 is.carries home.2.1 in
     let same : out.0 ≡ me.0 = λ j. (e.3 j).0 in
-    let carried : out.1 ≡ (c.args.stripe, c.args.map) ∷ [] = (λ j. (e.3 j).1) ∙ (λ j. (c.args.stripe, c.args.map) ∷ rest (one.1 j)) in
+    let carried : out.1 ≡ (c.args.stripe, c.args.map) ∷ [] = (λ j. (e.3 j).1)
+    ∙ (λ j. (c.args.stripe, c.args.map) ∷ rest (one.1 j)) in
     let at : c.lock_word-word.result ≡ locks_from me.0.core.sizes + 8 * c.args.stripe =
-    subst (λ (s : Standing). c.lock_word-word.result ≡ locks_from s.known.core.sizes + 8 * c.args.stripe) v c.lock_word-word.ensures in
+    subst (λ (s : Standing). c.lock_word-word.result ≡ locks_from s.known.core.sizes
+    + 8 * c.args.stripe) v c.lock_word-word.ensures in
     let on : out.0.core.active ≡ true = ap (λ (k : Known). k.core.active) same ∙ is.worker.active in (
       rw c.deref-2.ensures (e.0 ∙ is.one_table),
-      rw (c.deref-2.ensures, is.worker.words) (let there = is.worker.known.hand home.0 home.2.1 in let s = home.1 in let z = ap locks_from is.worker.sizes in omega arith),
-      unlock_allows c.deref-2.result.now.shared.key.sizes c.deref-2.result.now.shared.table_id.slots c.exchange-blank.new.seat.id
-          c.lock_word-word.result c.args.stripe out on (at ∙ ap (λ (k : Known). locks_from k.core.sizes + 8 * c.args.stripe) (sym same))
-          home.0 c.args.map home.1 carried (subst (λ (k : Known). MayUnlock k.core home.0 c.args.map.entries) (sym same) home.2),
+      rw (c.deref-2.ensures, is.worker.words) (let there = is.worker.known.hand home.0 home.2.1 in
+          let s = home.1 in let z = ap locks_from is.worker.sizes in omega arith),
+      unlock_allows c.deref-2.result.now.shared.key.sizes c.deref-2.result.now.shared.table_id.slots
+          c.exchange-blank.new.seat.id
+          c.lock_word-word.result c.args.stripe out on (at
+          ∙ ap (λ (k : Known). locks_from k.core.sizes + 8 * c.args.stripe) (sym same))
+          home.0 c.args.map home.1 carried (subst (λ (k : Known). MayUnlock k.core home.0
+          c.args.map.entries) (sym same) home.2),
     )
 
 pub invariant_of-self : goal.invariant_of-self
@@ -46,13 +62,20 @@ invariant_of-self c =
     let w = c.self.inside in
     let out = c.exchange-blank.new.seat.me in
     let e = c.exchange-blank.ensures in
-    let home : MayHome me.0.core c.args.stripe c.args.map.entries = subst (λ (s : Standing). MayHome s.known.core c.args.stripe c.args.map.entries) (sym c.self.view_is) c.requires in
+    let home : MayHome me.0.core c.args.stripe c.args.map.entries =
+    subst (λ (s : Standing). MayHome s.known.core c.args.stripe c.args.map.entries)
+    (sym c.self.view_is) c.requires in
     let one = carries_one me home.0 is.carries home.2.1 in
     let same : out.0 ≡ me.0 = λ j. (e.3 j).0 in
-    let carried : out.1 ≡ (c.args.stripe, c.args.map) ∷ [] = (λ j. (e.3 j).1) ∙ (λ j. (c.args.stripe, c.args.map) ∷ rest (one.1 j)) in
+    let carried : out.1 ≡ (c.args.stripe, c.args.map) ∷ [] = (λ j. (e.3 j).1)
+    ∙ (λ j. (c.args.stripe, c.args.map) ∷ rest (one.1 j)) in
     let told = c.store.ensures.2 in
-    seated_with w.seat.table_id (arc_value w.table).shared.table_id (arc_value w.table).shared.key.sizes w.sizes me w.number w.held w.phases.items
+    seated_with w.seat.table_id (arc_value w.table).shared.table_id
+    (arc_value w.table).shared.key.sizes w.sizes me w.number w.held w.phases.items
     w.retired.items w.noted.items w.position w.given w.out.items w.draft is
-    c.store.new.seat.table_id c.store.new.seat.me (unlocked me.0.core) w.held w.phases.items w.retired.items w.noted.items w.position w.given w.out.items w.draft
-    (c.store.ensures.0 ∙ e.0) (told.0.core ∙ ap (λ (k : Known). unlocked k.core) same) told.0.known (ap slots_out (told.1 ∙ ap rest carried)) refl
-    is.worker.active refl is.held_is is.phases_are is.retired_are is.noted_are is.position_is is.given_is is.out_is is.draft_is
+    c.store.new.seat.table_id c.store.new.seat.me (unlocked me.0.core) w.held w.phases.items
+    w.retired.items w.noted.items w.position w.given w.out.items w.draft
+    (c.store.ensures.0 ∙ e.0) (told.0.core ∙ ap (λ (k : Known). unlocked k.core) same) told.0.known
+    (ap slots_out (told.1 ∙ ap rest carried)) refl
+    is.worker.active refl is.held_is is.phases_are is.retired_are is.noted_are is.position_is
+    is.given_is is.out_is is.draft_is

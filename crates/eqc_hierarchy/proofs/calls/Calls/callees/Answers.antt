@@ -8,14 +8,18 @@ index-requires c =
     omega (
       arith,
       c.requires,
-      entry_count _ (callees c.self.inside.library.now) c.self.inside.callees.items (length c.self.inside.library.now) c.self.invariant,
+      entry_count _ (callees c.self.inside.library.now) c.self.inside.callees.items
+          (length c.self.inside.library.now) c.self.invariant,
       c.self.inside.callees.ok.0,
       ap length c.self.view_is,
     )
 
 pub returns : goal.returns
 returns c =
-    let inside : c.args.m < length c.self.inside.library.now + 1 = omega (arith, c.requires, ap length c.self.view_is) in
+    let inside : c.args.m < length c.self.inside.library.now + 1 =
+    omega (arith, c.requires, ap length c.self.view_is) in
     c.as_slice.ensures.value
-    ∙ (entry_at _ (callees c.self.inside.library.now) c.self.inside.callees.items (length c.self.inside.library.now) c.args.m c.index.result.now c.self.invariant inside c.index.ensures
+    ∙ (entry_at _ (callees c.self.inside.library.now) c.self.inside.callees.items
+    (length c.self.inside.library.now) c.args.m c.index.result.now c.self.invariant inside
+    c.index.ensures
     ∙ ap (λ l. callees l c.args.m) c.self.view_is)

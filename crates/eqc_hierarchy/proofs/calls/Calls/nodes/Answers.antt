@@ -8,7 +8,8 @@ returns c =
     omega (
       arith,
       c.len.ensures,
-      entry_count _ (callees c.self.inside.library.now) c.self.inside.callees.items (length c.self.inside.library.now) c.self.invariant,
+      entry_count _ (callees c.self.inside.library.now) c.self.inside.callees.items
+          (length c.self.inside.library.now) c.self.invariant,
       c.self.inside.callees.ok.0,
       ap length c.self.view_is,
     )

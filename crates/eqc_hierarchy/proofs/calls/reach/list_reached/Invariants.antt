@@ -9,4 +9,5 @@ abbrev pub decreases-models : goal.decreases-models
 decreases-models l = (length l.calls + 1) - l.k
 
 abbrev pub invariant-callees : goal.invariant-callees
-invariant-callees l = IsAdding l.calls l.top (length l.calls + 1) l.seen.items l.all.items l.k l.m (take l.callee-index l.callee-items)
+invariant-callees l = IsAdding l.calls l.top (length l.calls + 1) l.seen.items l.all.items l.k l.m
+    (take l.callee-index l.callee-items)

@@ -8,8 +8,11 @@ use Rattle.eqc_hierarchy.proofs.condition.instance_conditions.has_other.Goals as
 
 pub returns-then-not-has : goal.returns-then-not-has
 returns-then-not-has c =
-    sym (some_other (λ (pair : List ℕ × List ℕ). pair.0) c.args.names.now c.deref-pair-items.result.now c.pairs.pair-index
+    sym (some_other (λ (pair : List ℕ × List ℕ). pair.0) c.args.names.now
+    c.deref-pair-items.result.now c.pairs.pair-index
     c.pair-item.result c.has.result c.pairs-test.true c.pair-item.is
     (c.has.ensures ∙ ap (is_named c.args.names.now) c.as_bytes.ensures) c.if-not-has.true)
-    ∙ (ap (λ l. list_any (λ formal. not (is_named c.args.names.now formal)) (map (λ (pair : List ℕ × List ℕ). pair.0) l)) c.deref-pair-items.ensures.value
-    ∙ ap (λ (i : InstanceOf). list_any (λ formal. not (is_named c.args.names.now formal)) (formals i)) c.instance.view_is)
+    ∙ (ap (λ l. list_any (λ formal. not (is_named c.args.names.now formal))
+    (map (λ (pair : List ℕ × List ℕ). pair.0) l)) c.deref-pair-items.ensures.value
+    ∙ ap (λ (i : InstanceOf). list_any (λ formal. not (is_named c.args.names.now formal))
+    (formals i)) c.instance.view_is)

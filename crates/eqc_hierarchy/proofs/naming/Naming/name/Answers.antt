@@ -17,8 +17,10 @@ get-requires c =
     let size : length c.index.result.now ≡ length (names_of (model c.args.self.now c.args.m)) =
     ap length
     (let h : c.index.result.now ≡ names_of (model c.args.self.now c.args.m) =
-    (set_is c.self.inside.library.now c.self.inside.sets.items c.args.m c.index.result.now c.self.invariant
-    (let t = some_name c.args.self.now c.args.m c.args.k c.requires in omega (arith, t, ap length c.self.view_is))
+    (set_is c.self.inside.library.now c.self.inside.sets.items c.args.m c.index.result.now
+    c.self.invariant
+    (let t = some_name c.args.self.now c.args.m c.args.k c.requires in
+    omega (arith, t, ap length c.self.view_is))
     c.index.ensures)
     ∙ ap (λ (l : List ModelOf). names_of (model l c.args.m)) c.self.view_is in
     h) in
@@ -27,7 +29,9 @@ get-requires c =
 pub returns : goal.returns
 returns c =
     let set : c.index.result.now ≡ names_of (model c.args.self.now c.args.m) =
-    (set_is c.self.inside.library.now c.self.inside.sets.items c.args.m c.index.result.now c.self.invariant
-    (let t = some_name c.args.self.now c.args.m c.args.k c.requires in omega (arith, t, ap length c.self.view_is)) c.index.ensures)
+    (set_is c.self.inside.library.now c.self.inside.sets.items c.args.m c.index.result.now
+    c.self.invariant
+    (let t = some_name c.args.self.now c.args.m c.args.k c.requires in
+    omega (arith, t, ap length c.self.view_is)) c.index.ensures)
     ∙ ap (λ (l : List ModelOf). names_of (model l c.args.m)) c.self.view_is in
     c.get.ensures ∙ ap (λ (xs : List (List ℕ)). get_or xs c.args.k []) set

@@ -8,5 +8,6 @@ use Rattle.eqc_hierarchy.proofs.naming.Naming.of.Given as goal
 abbrev pub invariant-loop-m : goal.invariant-loop-m
 invariant-loop-m l = record {
   sets : l.sets.items ≡ map names_of (take l.m l.library);
-  columns : map (λ (c : SmallVec ℕ). c.items) l.columns.items ≡ flat_map columns_of (take l.m l.library);
+  columns : map (λ (c : SmallVec ℕ). c.items) l.columns.items
+      ≡ flat_map columns_of (take l.m l.library);
 }

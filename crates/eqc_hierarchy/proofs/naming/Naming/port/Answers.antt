@@ -13,6 +13,9 @@ inputs-requires c =
 
 pub returns-clause-input : goal.returns-clause-input
 returns-clause-input c =
-    let inputs : c.inputs.result.now ≡ (model c.args.self.now c.args.m).inputs = c.inputs.ensures.names ∙ ap (λ (l : List ModelOf). (model l c.args.m).inputs) c.self.view_is in
+    let inputs : c.inputs.result.now ≡ (model c.args.self.now c.args.m).inputs =
+    c.inputs.ensures.names ∙ ap (λ (l : List ModelOf). (model l c.args.m).inputs) c.self.view_is
+    in
     ap (λ (xs : List (List ℕ)). nat_lt c.position-position.result (length xs)) inputs
-    ∙ input_place (model c.args.self.now c.args.m) c.args.name.now c.position-position.result (sym (ap has_twice inputs) ∙ c.inputs.ensures.once) c.position-position.ensures.first
+    ∙ input_place (model c.args.self.now c.args.m) c.args.name.now c.position-position.result
+    (sym (ap has_twice inputs) ∙ c.inputs.ensures.once) c.position-position.ensures.first

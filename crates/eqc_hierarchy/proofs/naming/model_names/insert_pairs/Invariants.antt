@@ -4,4 +4,5 @@ use Rattle.eqc_netlist.specs.NameSets.{with_name}
 use Rattle.eqc_hierarchy.proofs.naming.model_names.insert_pairs.Given as goal
 
 abbrev pub invariant-pairs : goal.invariant-pairs
-invariant-pairs l = l.names ≡ fold with_name l.fn.names (map (λ (pair : List ℕ × List ℕ). pair.1) (take l.pair-index l.pair-items))
+invariant-pairs l = l.names ≡ fold with_name l.fn.names (map (λ (pair : List ℕ × List ℕ). pair.1)
+    (take l.pair-index l.pair-items))

@@ -4,4 +4,5 @@ use Rattle.eqc_inside.proofs.SearchingLaws.{tells_without}
 use Rattle.eqc_inside.proofs.inside.Inside.allows_none.Goals as goal
 
 pub returns-in_default-clause-found : goal.returns-in_default-clause-found
-returns-in_default-clause-found c = subst (λ p. TellsVacuous p false) c.self.view_is (tells_without c.self.inside.steps c.in_default.ensures)
+returns-in_default-clause-found c = subst (λ p. TellsVacuous p false) c.self.view_is
+    (tells_without c.self.inside.steps c.in_default.ensures)

@@ -3,4 +3,7 @@ use Rattle.eqc_node_tests.proofs.makers.Maker.store_itself.Goals as goal
 
 pub invariant_of-self : goal.invariant_of-self
 invariant_of-self g c =
-    record { making = makes_before c.args.self.now.variables c.args.self.now.references.items c.args.self.now.worker c.store.new.worker c.args.self.now.making c.store.ensures.before }
+    record {
+      making = makes_before c.args.self.now.variables c.args.self.now.references.items
+          c.args.self.now.worker c.store.new.worker c.args.self.now.making c.store.ensures.before;
+    }

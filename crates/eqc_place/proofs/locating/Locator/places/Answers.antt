@@ -9,8 +9,12 @@ use Rattle.eqc_place.proofs.locating.Locator.places.Goals as goal
 pub loop-suspect-preserved : goal.loop-suspect-preserved
 loop-suspect-preserved c = elim c.match-branch-4.branch [
   | in-Some+in_ok-push w ↦ (
-      let found : IfSome (Some w.in-Some.place) (IsPlace c.args.self.now (input_values c.args.self.now.pair c.args.inputs.now)) = rw w.in-Some.is at c.in_ok-place.ensures.places in
-      rw (w.each-is, w.in_ok-push.ensures.items) (All-push (IsPlace c.args.self.now (input_values c.args.self.now.pair c.args.inputs.now)) c.loop-suspect.each.items w.in-Some.place c.loop-suspect.invariant found)
+      let found : IfSome (Some w.in-Some.place) (IsPlace c.args.self.now
+      (input_values c.args.self.now.pair c.args.inputs.now)) =
+      rw w.in-Some.is at c.in_ok-place.ensures.places in
+      rw (w.each-is, w.in_ok-push.ensures.items)
+      (All-push (IsPlace c.args.self.now (input_values c.args.self.now.pair c.args.inputs.now))
+      c.loop-suspect.each.items w.in-Some.place c.loop-suspect.invariant found)
       )
   | in_default w ↦ rw w.each-is c.loop-suspect.invariant
 ]

@@ -9,4 +9,6 @@ longer c = elim c.if-len-eq0.branch [ then-len-eq0 w ↦ omega arith | else-len-
 pub returns : goal.returns
 returns c =
     lengthened c.args.self.now.cells.items c.resize.new.self.items
-    (filled _ c.if-len-eq0.more (c.if-len-eq0.more - vec_len c.args.self.now.cells) c.args.self.now.cells.items c.resize.new.self.items (longer c) (omega arith) c.resize.ensures.items)
+    (filled _ c.if-len-eq0.more (c.if-len-eq0.more - vec_len c.args.self.now.cells)
+    c.args.self.now.cells.items c.resize.new.self.items (longer c) (omega arith)
+    c.resize.ensures.items)

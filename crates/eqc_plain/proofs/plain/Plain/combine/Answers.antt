@@ -11,26 +11,32 @@ turns-smaller c =
     let s = c.turns.self in
     let n = c.resume.new.self in
     let t = rw c.in-Next.is at c.in_ok-x.ensures.turn in
-    turn_less (meaning_of s.store.variables s.store.nodes) (meaning_of n.store.variables n.store.nodes) c.args.op s.tasks.items n.tasks.items _ _
+    turn_less (meaning_of s.store.variables s.store.nodes) (meaning_of n.store.variables
+    n.store.nodes) c.args.op s.tasks.items n.tasks.items _ _
     c.turns.next.0 c.turns.next.1 c.in-Next.f c.in-Next.g c.in_ok-x.ensures.store.variables t
 
 pub returns-in_err-x-clause-store : goal.returns-in_err-x-clause-store
-returns-in_err-x-clause-store c = extends_trans c.args.self.now.store c.turns.self.store c.resume.new.self.store c.turns.invariant.store c.resume.ensures.store
+returns-in_err-x-clause-store c = extends_trans c.args.self.now.store c.turns.self.store
+    c.resume.new.self.store c.turns.invariant.store c.resume.ensures.store
 
 pub returns-in-Done-clause-store : goal.returns-in-Done-clause-store
-returns-in-Done-clause-store c = extends_trans c.args.self.now.store c.turns.self.store c.resume.new.self.store c.turns.invariant.store c.resume.ensures.store
+returns-in-Done-clause-store c = extends_trans c.args.self.now.store c.turns.self.store
+    c.resume.new.self.store c.turns.invariant.store c.resume.ensures.store
 
 pub turns-preserved : goal.turns-preserved
 turns-preserved c =
     let n = c.resume.new.self in
     let t = rw c.in-Next.is at c.in_ok-x.ensures.turn in
-    let x = extends_trans c.args.self.now.store c.turns.self.store n.store c.turns.invariant.store c.resume.ensures.store in
+    let x = extends_trans c.args.self.now.store c.turns.self.store n.store c.turns.invariant.store
+    c.resume.ensures.store in
     record {
       store = record { grows = x.grows; keeps = x.keeps; variables = x.variables; limit = x.limit };
-      leads = subst (λ (p : ℕ × ℕ). Leads (meaning_of n.store.variables n.store.nodes) c.args.op n.tasks.items p.0 p.1 c.in-Next.f c.in-Next.g) c.of-whole.ensures t.leads;
+      leads = subst (λ (p : ℕ × ℕ). Leads (meaning_of n.store.variables n.store.nodes) c.args.op
+          n.tasks.items p.0 p.1 c.in-Next.f c.in-Next.g) c.of-whole.ensures t.leads;
       first = t.first;
       second = t.second;
-      turns = spends_then (spends_trans c.turns.invariant.turns c.count_turn.ensures.spends) c.resume.ensures.turns;
+      turns = spends_then (spends_trans c.turns.invariant.turns c.count_turn.ensures.spends)
+          c.resume.ensures.turns;
     }
 
 pub turns-preserved-in_default-known : goal.turns-preserved-in_default-known
@@ -42,14 +48,21 @@ turns-preserved-in_default-known c =
       leads = s.leads c.args.op c.args.f c.args.g c.turns.invariant.leads;
       first = s.first;
       second = s.second;
-      turns = spends_then (spends_trans c.turns.invariant.turns c.count_turn.ensures.spends) d.turns;
+      turns = spends_then (spends_trans c.turns.invariant.turns c.count_turn.ensures.spends)
+          d.turns;
     }
 
 pub returns-in_err-next-2-clause-turns : goal.returns-in_err-next-2-clause-turns
-returns-in_err-next-2-clause-turns c = spends_then (spends_trans c.turns.invariant.turns c.count_turn.ensures.spends) c.descend-in_default-known.ensures.turns
+returns-in_err-next-2-clause-turns c =
+    spends_then (spends_trans c.turns.invariant.turns c.count_turn.ensures.spends)
+    c.descend-in_default-known.ensures.turns
 
 pub returns-in_err-x-clause-turns : goal.returns-in_err-x-clause-turns
-returns-in_err-x-clause-turns c = spends_then (spends_trans c.turns.invariant.turns c.count_turn.ensures.spends) c.resume.ensures.turns
+returns-in_err-x-clause-turns c =
+    spends_then (spends_trans c.turns.invariant.turns c.count_turn.ensures.spends)
+    c.resume.ensures.turns
 
 pub returns-in-Done-clause-turns : goal.returns-in-Done-clause-turns
-returns-in-Done-clause-turns c = spends_then (spends_trans c.turns.invariant.turns c.count_turn.ensures.spends) c.resume.ensures.turns
+returns-in-Done-clause-turns c =
+    spends_then (spends_trans c.turns.invariant.turns c.count_turn.ensures.spends)
+    c.resume.ensures.turns

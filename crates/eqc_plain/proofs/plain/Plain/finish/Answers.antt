@@ -13,7 +13,10 @@ node-requires-clause-above_high c = (both_fit c.requires).above_high
 pub invariant_of-self : goal.invariant_of-self
 invariant_of-self c =
     let s = c.args.self.now in
-    record { cached = cache_stays _ _ s.cache.cells.items (store_stays s.store c.node.new.self c.node.ensures.store) s.cached }
+    record {
+      cached = cache_stays _ _ s.cache.cells.items (store_stays s.store c.node.new.self
+          c.node.ensures.store) s.cached;
+    }
 
 pub invariant_of-self-3 : goal.invariant_of-self-3
 invariant_of-self-3 c =
@@ -22,16 +25,20 @@ invariant_of-self-3 c =
     let m = meaning_of n.variables n.nodes in
     let e = store_stays s.store n c.node.ensures.store in
     let grown = c.grow.new.self.cells.items in
-    let right = combined m c.args.op c.args.variable c.args.f c.args.g c.args.low c.args.high c.in_ok-x.x (both_stay e c.requires) (whole_of c.in_ok-x.ensures.ok) in
+    let right = combined m c.args.op c.args.variable c.args.f c.args.g c.args.low c.args.high
+    c.in_ok-x.x (both_stay e c.requires) (whole_of c.in_ok-x.ensures.ok) in
     record {
       cached =
-          kept_right m grown c.keep.new.self.cells.items c.args.op c.args.f c.args.g c.in_ok-x.x c.keep.ensures right
-          (no_more_right m s.cache.cells.items grown c.grow.ensures (cache_stays _ _ s.cache.cells.items e s.cached));
+          kept_right m grown c.keep.new.self.cells.items c.args.op c.args.f c.args.g c.in_ok-x.x
+          c.keep.ensures right
+          (no_more_right m s.cache.cells.items grown c.grow.ensures
+          (cache_stays _ _ s.cache.cells.items e s.cached));
     }
 
 pub returns-clause-ok : goal.returns-clause-ok
 returns-clause-ok c =
     let s = c.args.self.now.store in
     let n = c.node.new.self in
-    combined (meaning_of n.variables n.nodes) c.args.op c.args.variable c.args.f c.args.g c.args.low c.args.high c.in_ok-x.x
+    combined (meaning_of n.variables n.nodes) c.args.op c.args.variable c.args.f c.args.g c.args.low
+    c.args.high c.in_ok-x.x
     (both_stay (store_stays s n c.node.ensures.store) c.requires) (whole_of c.in_ok-x.ensures.ok)

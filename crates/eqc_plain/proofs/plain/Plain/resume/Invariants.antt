@@ -7,8 +7,10 @@ use Rattle.eqc_plain.proofs.plain.Plain.resume.Given as goal
 abbrev pub invariant-loop-task : goal.invariant-loop-task
 invariant-loop-task l = record {
   store : Extends l.fn.self.store l.self.store;
-  leads : LeadsTo (meaning_of l.self.store.variables l.self.store.nodes) l.op l.self.tasks.items l.whole.value.0 l.whole.value.1 l.x;
-  less : owed_all l.self.store.variables l.self.tasks.items ≤ owed_all l.self.store.variables l.fn.self.tasks.items;
+  leads : LeadsTo (meaning_of l.self.store.variables l.self.store.nodes) l.op l.self.tasks.items
+      l.whole.value.0 l.whole.value.1 l.x;
+  less : owed_all l.self.store.variables l.self.tasks.items ≤ owed_all l.self.store.variables
+      l.fn.self.tasks.items;
   turns : l.self.turns ≡ l.fn.self.turns;
 }
 

@@ -28,6 +28,8 @@ returns-clause-ok g c =
     let f = b.tree c.args.f.now.node p.within ∙ sym p.tree in
     let h = b.tree c.args.g.now.node q.within ∙ sym q.tree in
     let right = λ (a : ℕ → Bool).
-    ◌∙◌ {b = operate c.args.op (value (tree_at n.nodes c.args.f.now.node) a) (value (tree_at n.nodes c.args.g.now.node) a)}
+    ◌∙◌ {b = operate c.args.op (value (tree_at n.nodes c.args.f.now.node) a)
+    (value (tree_at n.nodes c.args.g.now.node) a)}
     (c.in_ok-x.ensures.ok.function a) (operate_same c.args.op _ _ _ _ a f h) in
-    IfOk-weaker c.hold.result _ _ (λ r k. keeps_then_gains _ _ _ _ _ _ c.combine.ensures.store.keeps k right) c.hold.ensures.ok
+    IfOk-weaker c.hold.result _ _ (λ r k. keeps_then_gains _ _ _ _ _ _ c.combine.ensures.store.keeps
+    k right) c.hold.ensures.ok

@@ -25,16 +25,24 @@ pub least-requires-clause-satisfiable : goal.least-requires-clause-satisfiable
 least-requires-clause-satisfiable g c =
     let s = c.args.self.now.store in
     let P : Tree → Type 0 = λ t. IsSatisfiable (value t) in
-    copy_satisfiable s _ _ _ c.in_ok-diagram.ensures.diagram.copy (subst P (held_is s.variables s.nodes _ s.counts.items _ c.requires.held).tree c.requires.satisfiable)
+    copy_satisfiable s _ _ _ c.in_ok-diagram.ensures.diagram.copy
+    (subst P (held_is s.variables s.nodes _ s.counts.items _ c.requires.held).tree
+    c.requires.satisfiable)
 
 pub least-requires-clause-depends : goal.least-requires-clause-depends
 least-requires-clause-depends g c =
     let s = c.args.self.now.store in
     let P : Tree → Type 0 = λ t. DependsOnlyOn c.args.variables.now (value t) in
-    copy_depends s _ _ _ c.in_ok-diagram.ensures.diagram.copy c.args.variables.now (subst P (held_is s.variables s.nodes _ s.counts.items _ c.requires.held).tree c.requires.depends)
+    copy_depends s _ _ _ c.in_ok-diagram.ensures.diagram.copy c.args.variables.now
+    (subst P (held_is s.variables s.nodes _ s.counts.items _ c.requires.held).tree
+    c.requires.depends)
 
 pub returns-in-Ok-clause-least : goal.returns-in-Ok-clause-least
 returns-in-Ok-clause-least g c =
     let s = c.args.self.now.store in
-    let P : Tree → Type 0 = λ t. Some c.in-Ok.values.items ≡ find (λ values. value t (assigned c.args.variables.now values)) (assignments (length c.args.variables.now)) in
-    subst P (sym (held_is s.variables s.nodes _ s.counts.items _ c.requires.held).tree) (c.in-Ok.ensures ∙ copy_least s _ _ _ c.in_ok-diagram.ensures.diagram.copy c.args.variables.now)
+    let P : Tree → Type 0 = λ t. Some c.in-Ok.values.items
+    ≡ find (λ values. value t (assigned c.args.variables.now values))
+    (assignments (length c.args.variables.now)) in
+    subst P (sym (held_is s.variables s.nodes _ s.counts.items _ c.requires.held).tree)
+    (c.in-Ok.ensures ∙ copy_least s _ _ _ c.in_ok-diagram.ensures.diagram.copy
+    c.args.variables.now)

@@ -23,7 +23,10 @@ pub invariant_of-self : goal.invariant_of-self
 invariant_of-self g c =
     let s = c.args.self.now.store in
     let e = c.node.ensures.store in
-    record { cached = cache_stays _ _ c.args.self.now.cache.cells.items (store_stays s c.node.new.self e) c.args.self.now.cached }
+    record {
+      cached = cache_stays _ _ c.args.self.now.cache.cells.items
+          (store_stays s c.node.new.self e) c.args.self.now.cached;
+    }
 
 pub invariant_of-self-2 : goal.invariant_of-self-2
 invariant_of-self-2 g c =
@@ -31,10 +34,13 @@ invariant_of-self-2 g c =
     let n = c.node.new.self in
     let e = c.node.ensures.store in
     let h = c.hold.ensures in
-    let here = cache_stays _ _ c.args.self.now.cache.cells.items (store_stays s n e) c.args.self.now.cached in
+    let here = cache_stays _ _ c.args.self.now.cache.cells.items (store_stays s n e)
+    c.args.self.now.cached in
     record { cached = rw (h.variables, h.nodes) here }
 
 pub returns-clause-ok : goal.returns-clause-ok
 returns-clause-ok g c =
     let n = c.node.new.self in
-    IfOk-weaker c.hold.result _ _ (λ r h. keeps_then_gains _ _ _ _ _ _ c.node.ensures.store.keeps h (literal_value n.nodes n.variables c.args.var c.in_ok-x.x c.in_ok-x.ensures.ok)) c.hold.ensures.ok
+    IfOk-weaker c.hold.result _ _ (λ r h. keeps_then_gains _ _ _ _ _ _ c.node.ensures.store.keeps h
+    (literal_value n.nodes n.variables c.args.var c.in_ok-x.x c.in_ok-x.ensures.ok))
+    c.hold.ensures.ok

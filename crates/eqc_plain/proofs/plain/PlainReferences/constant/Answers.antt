@@ -15,4 +15,5 @@ constant_value ws false a = ap (λ t. value t a) (tree_at-zero ws)
 pub returns-clause-ok : goal.returns-clause-ok
 returns-clause-ok c =
     let s = c.args.self.now.store in
-    IfOk-weaker c.hold.result _ _ (λ r h. gains_as _ _ _ _ _ h (λ a. constant_value s.nodes c.args.b a)) c.hold.ensures.ok
+    IfOk-weaker c.hold.result _ _ (λ r h. gains_as _ _ _ _ _ h (λ a. constant_value s.nodes c.args.b
+    a)) c.hold.ensures.ok

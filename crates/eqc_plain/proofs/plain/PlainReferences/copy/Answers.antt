@@ -16,12 +16,17 @@ pub returns-clause-ok : goal.returns-clause-ok
 returns-clause-ok c =
     let s = c.args.self.now.store in
     let k = held_is s.variables s.nodes _ s.counts.items _ c.requires in
-    let Q : Tree → Type 0 = λ t. Rattle.std.specs.Result.IfOk c.hold.result (λ r. Gains (holding_in s) (holding_in c.hold.new.self) (entry_of r) (λ a. value t a)) in
+    let Q : Tree → Type 0 = λ t. Rattle.std.specs.Result.IfOk c.hold.result
+    (λ r. Gains (holding_in s) (holding_in c.hold.new.self) (entry_of r) (λ a. value t a)) in
     subst Q (sym k.tree) c.hold.ensures.ok
 
 pub returns-clause-full : goal.returns-clause-full
 returns-clause-full c =
     let s = c.args.self.now.store in
     let k = held_is s.variables s.nodes _ s.counts.items _ c.requires in
-    let Q : Tree → Type 0 = λ t. OnErr c.hold.result (copies (holding_in s) (record { number = c.args.f.now.node; tree = t }) ≡ 4294967295) in
+    let Q : Tree → Type 0 = λ t. OnErr c.hold.result (copies (holding_in s) (record {
+      number =
+          c.args.f.now.node;
+      tree = t;
+    }) ≡ 4294967295) in
     subst Q (sym k.tree) c.hold.ensures.full

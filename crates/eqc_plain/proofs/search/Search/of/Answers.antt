@@ -7,5 +7,6 @@ blank-requires-clause-some c = some_number c.args.store.now.nodes c.args.f c.req
 pub trace-requires-clause-leads : goal.trace-requires-clause-leads
 trace-requires-clause-leads c =
     let s = c.args.store.now in
-    root_marked s.lawful c.mark.new.self.choices.items c.mark.new.self.marks.items c.args.f c.requires.within c.mark.ensures.marked
+    root_marked s.lawful c.mark.new.self.choices.items c.mark.new.self.marks.items c.args.f
+    c.requires.within c.mark.ensures.marked
     (rw c.mark.ensures.choices c.in_ok-search.ensures.free) c.requires.satisfiable

@@ -7,5 +7,6 @@ invariant-variables l = record {
   choices : l.self.choices ≡ l.fn.self.choices;
   marks : l.self.marks ≡ l.fn.self.marks;
   long : length l.self.witness.items ≡ length l.fn.self.witness.items;
-  started : (u : ℕ) → u < l.v → given l.self.witness.items u ≡ rises_by (get_or l.self.choices.items u None) true;
+  started : (u : ℕ) → u < l.v → given l.self.witness.items u
+      ≡ rises_by (get_or l.self.choices.items u None) true;
 }

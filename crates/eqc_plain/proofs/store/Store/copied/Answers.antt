@@ -8,6 +8,7 @@ places-init c =
     let d = c.in_ok-copy.copy in
     let none : c.new-numbers.result.items ≡ [] = c.new-numbers.ensures.items in
     record {
-      copying = rw none (copies_none s d c.args.reached.now.keys (new_variables s.variables d c.in_ok-copy.ensures.empty) c.in_ok-copy.ensures.limit c.in_ok-copy.ensures.nodes);
+      copying = rw none (copies_none s d c.args.reached.now.keys (new_variables s.variables d
+          c.in_ok-copy.ensures.empty) c.in_ok-copy.ensures.limit c.in_ok-copy.ensures.nodes);
       upto = omega (arith, ap length none);
     }

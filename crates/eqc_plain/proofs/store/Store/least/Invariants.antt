@@ -9,5 +9,6 @@ abbrev pub invariant-positions : goal.invariant-positions
 invariant-positions l = record {
   search : IsSearch l.self l.f l.search;
   long : length l.values.items ≡ l.k;
-  decided : IsDecided l.variables (value (tree_at l.self.nodes l.f)) l.search.choices.items l.values.items;
+  decided : IsDecided l.variables (value (tree_at l.self.nodes l.f)) l.search.choices.items
+      l.values.items;
 }

@@ -19,7 +19,12 @@ overflow_sub-count c =
     let s = c.args.self.now in
     let k = held_is s.variables s.nodes _ s.counts.items _ c.requires in
     let room : c.args.r.node < length s.counts.items = omega (arith, k.within, s.lawful.counted) in
-    omega (arith, k.counted c.if-node-lt2.false, c.index-count.ensures, get_or_default s.counts.items c.args.r.node c.index-count.result.now 0 room)
+    omega (
+      arith,
+      k.counted c.if-node-lt2.false,
+      c.index-count.ensures,
+      get_or_default s.counts.items c.args.r.node c.index-count.result.now 0 room,
+    )
 
 pub index_mut-requires : goal.index_mut-requires
 index_mut-requires c =
@@ -31,4 +36,5 @@ pub returns-clause-loses : goal.returns-clause-loses
 returns-clause-loses c =
     let s = c.args.self.now in
     let k = held_is s.variables s.nodes _ s.counts.items _ c.requires in
-    loses_read s.variables s.limit s.nodes _ s.counts.items c.args.r.node c.index-count.result.now s.lawful c.if-node-lt2.false k c.index-count.ensures
+    loses_read s.variables s.limit s.nodes _ s.counts.items c.args.r.node c.index-count.result.now
+    s.lawful c.if-node-lt2.false k c.index-count.ensures

@@ -12,4 +12,5 @@ pub returns : goal.returns
 unfolding variable_of
 returns c =
     let s = c.args.self.now in
-    ap (λ p. p.0) c.unpack_node-variable.ensures.fields ∙ ap variable_of c.word.ensures ∙ sym (root-node s.lawful c.args.x c.if-x-lt2.false c.requires)
+    ap (λ p. p.0) c.unpack_node-variable.ensures.fields ∙ ap variable_of c.word.ensures
+    ∙ sym (root-node s.lawful c.args.x c.if-x-lt2.false c.requires)

@@ -7,6 +7,7 @@ writes-preserved g c = record {
   within = omega (arith, c.in_ok-done.ensures.some);
   open_stage = c.in_ok-done.ensures.stage;
   written =
-      writes_on (g.W.Write.contents c.args.out.now) (g.W.Write.contents c.writes.out) (g.W.Write.contents c.write_some.new.out) c.args.text.now
+      writes_on (g.W.Write.contents c.args.out.now) (g.W.Write.contents c.writes.out)
+      (g.W.Write.contents c.write_some.new.out) c.args.text.now
       c.writes.done c.in_ok-done.field-0 c.writes.invariant.written c.in_ok-done.ensures.written;
 }

@@ -7,4 +7,5 @@ use Rattle.eqc_report.proofs.report.text.put_each.Given as goal
 
 abbrev pub invariant-loop-difference : goal.invariant-loop-difference
 invariant-loop-difference g l =
-    Puts (g.W.Write.contents l.fn.out) (g.W.Write.contents l.out) l.fn.spool l.spool (flat_map (λ d. block (difference_of l.inputs d)) (take l.difference-index l.differences))
+    Puts (g.W.Write.contents l.fn.out) (g.W.Write.contents l.out) l.fn.spool l.spool
+    (flat_map (λ d. block (difference_of l.inputs d)) (take l.difference-index l.differences))

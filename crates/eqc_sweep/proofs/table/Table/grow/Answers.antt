@@ -5,5 +5,6 @@ use Rattle.eqc_sweep.proofs.table.Table.grow.Goals as goal
 
 pub returns : goal.returns
 returns c nodes g known =
-    let there = subst (λ (all : List Known). AreKnown nodes all) (sym c.as_slice.ensures.value) known in
+    let there = subst (λ (all : List Known). AreKnown nodes all) (sym c.as_slice.ensures.value)
+    known in
     c.keep_all.ensures nodes (c.in_ok-entries.ensures nodes g) there

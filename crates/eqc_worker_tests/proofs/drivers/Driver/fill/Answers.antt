@@ -1,15 +1,18 @@
 use Rattle.std.proofs.Common.{◌≡◌, ℕ, ◌≤◌, ◌^◌, [], ◌∷◌, Some, arith}
 use Rattle.eqc_core.specs.Words.{slots_of}
 use Rattle.eqc_cache.proofs.Trading.{swap_gives, swap_gives_none}
-use Rattle.eqc_worker_tests.proofs.Driving.{thrice, may_fill, stands_still, swap_driven, two_more, entry_slots, nothing_came}
+use Rattle.eqc_worker_tests.proofs.Driving.{thrice, may_fill, stands_still, swap_driven, two_more}
+use Rattle.eqc_worker_tests.proofs.Driving.{entry_slots, nothing_came}
 use Rattle.eqc_worker_tests.proofs.drivers.Driver.fill.Goals as goal
 
 pub swap_cell-requires : goal.swap_cell-requires
 swap_cell-requires g c =
     let s = c.args.self.now in
     let m = c.may_swap.ensures c.if-not-may_swap.false in
-    may_fill c.number-x.result c.triple-filled.result s.phase s.position s.references.items s.worker c.triple-filled.new.worker
-    c.triple-filled.ensures s.driven c.args.cell m.0 m.1 m.2 m.3 (c.is_full.ensures c.if-is_full.false)
+    may_fill c.number-x.result c.triple-filled.result s.phase s.position s.references.items s.worker
+    c.triple-filled.new.worker
+    c.triple-filled.ensures s.driven c.args.cell m.0 m.1 m.2 m.3
+    (c.is_full.ensures c.if-is_full.false)
 
 pub invariant_of-self : goal.invariant_of-self
 invariant_of-self g c =
@@ -18,23 +21,31 @@ invariant_of-self g c =
     let e = c.triple-filled.result in
     let t = c.triple-filled.ensures in
     let may =
-    may_fill c.number-x.result c.triple-filled.result s.phase s.position s.references.items s.worker c.triple-filled.new.worker
-    c.triple-filled.ensures s.driven c.args.cell m.0 m.1 m.2 m.3 (c.is_full.ensures c.if-is_full.false) in
+    may_fill c.number-x.result c.triple-filled.result s.phase s.position s.references.items s.worker
+    c.triple-filled.new.worker
+    c.triple-filled.ensures s.driven c.args.cell m.0 m.1 m.2 m.3
+    (c.is_full.ensures c.if-is_full.false) in
     let is = c.in-Some.ensures in
     let trades =
-    swap_gives c.args.cell is.0 c.in-Some.f.number c.in-Some.g.number (Some c.triple-filled.result) c.triple-filled.new.worker
+    swap_gives c.args.cell is.0 c.in-Some.f.number c.in-Some.g.number (Some c.triple-filled.result)
+    c.triple-filled.new.worker
     c.swap_cell.new.self c.triple-filled.ensures.known may is.1 is.3.0 is.3.1 in
     record {
       driven =
-          swap_driven s.phase s.position is.0 (Some c.triple-filled.result) (slots_of (c.in-Some.f.number ∷ c.in-Some.g.number ∷ []))
+          swap_driven s.phase s.position is.0 (Some c.triple-filled.result)
+          (slots_of (c.in-Some.f.number ∷ c.in-Some.g.number ∷ []))
           c.keep-in-Some.new.references.items c.triple-filled.new.worker c.swap_cell.new.self
-          (stands_still c.number-x.result c.triple-filled.result s.phase s.position s.references.items s.worker c.triple-filled.new.worker c.triple-filled.ensures s.driven) is.1 trades
+          (stands_still c.number-x.result c.triple-filled.result s.phase s.position
+          s.references.items s.worker c.triple-filled.new.worker c.triple-filled.ensures s.driven)
+          is.1 trades
           (λ y two. omega (
             arith,
             s.driven.covered y two,
             entry_slots c.triple-filled.result y two,
-            thrice c.number-x.result c.triple-filled.result s.phase s.position s.references.items s.worker c.triple-filled.new.worker c.triple-filled.ensures s.driven y,
-            two_more c.in-Some.f c.in-Some.g s.references.items c.keep.new.references.items c.keep-in-Some.new.references.items y two c.keep.ensures c.keep-in-Some.ensures,
+            thrice c.number-x.result c.triple-filled.result s.phase s.position s.references.items
+                s.worker c.triple-filled.new.worker c.triple-filled.ensures s.driven y,
+            two_more c.in-Some.f c.in-Some.g s.references.items c.keep.new.references.items
+                c.keep-in-Some.new.references.items y two c.keep.ensures c.keep-in-Some.ensures,
           ));
     }
 
@@ -43,21 +54,28 @@ invariant_of-self-in_default g c =
     let s = c.args.self.now in
     let m = c.may_swap.ensures c.if-not-may_swap.false in
     let may =
-    may_fill c.number-x.result c.triple-filled.result s.phase s.position s.references.items s.worker c.triple-filled.new.worker
-    c.triple-filled.ensures s.driven c.args.cell m.0 m.1 m.2 m.3 (c.is_full.ensures c.if-is_full.false) in
+    may_fill c.number-x.result c.triple-filled.result s.phase s.position s.references.items s.worker
+    c.triple-filled.new.worker
+    c.triple-filled.ensures s.driven c.args.cell m.0 m.1 m.2 m.3
+    (c.is_full.ensures c.if-is_full.false) in
     let trades =
-    swap_gives_none c.args.cell c.swap_cell.ensures.0 (Some c.triple-filled.result) c.triple-filled.new.worker c.swap_cell.new.self
-    c.triple-filled.ensures.known may c.swap_cell.ensures.1 (c.swap_cell.ensures.2.0 c.in_default.is) in
+    swap_gives_none c.args.cell c.swap_cell.ensures.0 (Some c.triple-filled.result)
+    c.triple-filled.new.worker c.swap_cell.new.self
+    c.triple-filled.ensures.known may c.swap_cell.ensures.1 (c.swap_cell.ensures.2.0
+    c.in_default.is) in
     record {
       driven =
-          swap_driven s.phase s.position c.swap_cell.ensures.0 (Some c.triple-filled.result) [] s.references.items c.triple-filled.new.worker c.swap_cell.new.self
-          (stands_still c.number-x.result c.triple-filled.result s.phase s.position s.references.items s.worker c.triple-filled.new.worker c.triple-filled.ensures s.driven)
+          swap_driven s.phase s.position c.swap_cell.ensures.0 (Some c.triple-filled.result) []
+          s.references.items c.triple-filled.new.worker c.swap_cell.new.self
+          (stands_still c.number-x.result c.triple-filled.result s.phase s.position
+          s.references.items s.worker c.triple-filled.new.worker c.triple-filled.ensures s.driven)
           c.swap_cell.ensures.1 trades
           (λ y two. omega (
             arith,
             s.driven.covered y two,
             entry_slots c.triple-filled.result y two,
             nothing_came y,
-            thrice c.number-x.result c.triple-filled.result s.phase s.position s.references.items s.worker c.triple-filled.new.worker c.triple-filled.ensures s.driven y,
+            thrice c.number-x.result c.triple-filled.result s.phase s.position s.references.items
+                s.worker c.triple-filled.new.worker c.triple-filled.ensures s.driven y,
           ));
     }

@@ -6,5 +6,6 @@ use Rattle.eqc_blif.proofs.model.cover.Cover.opened.Goals as goal
 pub returns : goal.returns
 returns c =
     let width = length c.pop.new.self.items + 1 in
-    let none : rows_in width c.new.result.items ≡ [] = ap (λ bytes. rows_in width bytes) c.new.ensures.items ∙ no_rows width (omega arith) in
+    let none : rows_in width c.new.result.items ≡ [] =
+    ap (λ bytes. rows_in width bytes) c.new.ensures.items ∙ no_rows width (omega arith) in
     rw none (search rules)

@@ -15,10 +15,13 @@ invariant_of-self-in_default c =
     let known : None ≡ code_behind columns (rows_in (columns + 1) bytes) row =
     sym c.in_default.is
     ∙ (c.row_code-code.ensures
-    ∙ cut_code c.len-columns.result columns c.len-end.result bytes row c.as_slice.result.now c.split_at.result.0.now
+    ∙ cut_code c.len-columns.result columns c.len-end.result bytes row c.as_slice.result.now
+    c.split_at.result.0.now
     c.split_at.result.1.now c.of.result
-    (c.len-columns.ensures ∙ c.self.inside.columns.ok.0) c.len-end.ensures.value (c.as_slice.ensures ∙ put) c.split_at.ensures.front c.split_at.ensures.back c.of.ensures) in
-    row_put_whole columns (rows_in (columns + 1) bytes) bytes c.append_without_blanks.new.bytes.items row c.self.invariant put (sym known)
+    (c.len-columns.ensures ∙ c.self.inside.columns.ok.0) c.len-end.ensures.value (c.as_slice.ensures
+    ∙ put) c.split_at.ensures.front c.split_at.ensures.back c.of.ensures) in
+    row_put_whole columns (rows_in (columns + 1) bytes) bytes
+    c.append_without_blanks.new.bytes.items row c.self.invariant put (sym known)
 
 pub returns : goal.returns
 returns c =
@@ -29,10 +32,19 @@ returns c =
     let known : None ≡ code_behind columns (rows_in (columns + 1) bytes) row =
     sym c.in_default.is
     ∙ (c.row_code-code.ensures
-    ∙ cut_code c.len-columns.result columns c.len-end.result bytes row c.as_slice.result.now c.split_at.result.0.now
+    ∙ cut_code c.len-columns.result columns c.len-end.result bytes row c.as_slice.result.now
+    c.split_at.result.0.now
     c.split_at.result.1.now c.of.result
-    (c.len-columns.ensures ∙ c.self.inside.columns.ok.0) c.len-end.ensures.value (c.as_slice.ensures ∙ put) c.split_at.ensures.front c.split_at.ensures.back c.of.ensures) in
-    let new : CoverOf = record { columns = c.self.inside.columns.items; output = c.self.inside.output; rows = rows_in (columns + 1) c.append_without_blanks.new.bytes.items } in
+    (c.len-columns.ensures ∙ c.self.inside.columns.ok.0) c.len-end.ensures.value (c.as_slice.ensures
+    ∙ put) c.split_at.ensures.front c.split_at.ensures.back c.of.ensures) in
+    let new : CoverOf = record {
+      columns = c.self.inside.columns.items;
+      output =
+          c.self.inside.output;
+      rows = rows_in (columns + 1) c.append_without_blanks.new.bytes.items;
+    }
+    in
     subst (λ old. TakesRow old row None new) c.self.view_is
-    (row_put_behind c.self.inside.columns.items c.self.inside.output bytes c.append_without_blanks.new.bytes.items row None
+    (row_put_behind c.self.inside.columns.items c.self.inside.output bytes
+    c.append_without_blanks.new.bytes.items row None
     c.self.invariant put known)

@@ -6,5 +6,6 @@ use Rattle.eqc_blif.proofs.reader.open_model.OpenModel.take_row.Goals as goal
 pub returns-clause-taken : goal.returns-clause-taken
 returns-clause-taken c =
     rw (← c.self.view_is, c.in-Some.is)
-    (row_taken (model_of c.self.inside.name c.self.inside.declarations) c.in-Some.cover c.take_row.new.self
+    (row_taken (model_of c.self.inside.name c.self.inside.declarations) c.in-Some.cover
+    c.take_row.new.self
     (without_blanks c.args.line.now) c.in_ok-code.code c.in_ok-code.ensures)

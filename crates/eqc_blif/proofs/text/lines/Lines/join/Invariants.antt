@@ -5,7 +5,8 @@ use Rattle.eqc_blif.proofs.text.lines.Lines.join.Given as goal
 abbrev pub invariant-pieces : goal.invariant-pieces
 invariant-pieces l = record {
   shorter : length l.self ≤ length l.fn.self;
-  joined : (n m : ℕ) → onto_next n l.line.items (joined ((m, l.piece) ∷ l.self)) ≡ joined ((n, l.fn.first) ∷ l.fn.self);
+  joined : (n m : ℕ) → onto_next n l.line.items (joined ((m, l.piece) ∷ l.self))
+      ≡ joined ((n, l.fn.first) ∷ l.fn.self);
 }
 
 abbrev pub decreases-pieces : goal.decreases-pieces

@@ -14,5 +14,6 @@ invariant-loop-i l = record {
       → IsTable l.hierarchy.0 l.hierarchy.1 l.self.0 l.self.1
       (done
       ++ (input_drivings (enumerate_from 0 (model l.hierarchy.0 l.hierarchy.1).inputs)
-      ++ flat_map (drivings_at l.hierarchy.0 l.hierarchy.1) (take l.i (paths l.hierarchy.0 l.hierarchy.1))));
+      ++ flat_map (drivings_at l.hierarchy.0 l.hierarchy.1)
+      (take l.i (paths l.hierarchy.0 l.hierarchy.1))));
 }

@@ -11,6 +11,7 @@ invariant-loop-p l = record {
   step : (done : List Driving) → IsTable l.hierarchy.0 l.hierarchy.1 l.fn.self.0 l.fn.self.1 done
       → IsTable l.hierarchy.0 l.hierarchy.1 l.self.0 l.self.1
       (done
-      ++ flat_map (instance_drivings l.hierarchy.0 l.hierarchy.1 (path_at l.hierarchy.0 l.hierarchy.1 l.i))
+      ++ flat_map (instance_drivings l.hierarchy.0 l.hierarchy.1 (path_at l.hierarchy.0
+      l.hierarchy.1 l.i))
       (take l.p (enumerate_from 0 (model_of l.hierarchy.0 l.hierarchy.1 l.i).instances)));
 }

@@ -11,5 +11,6 @@ invariant-loop-k l = record {
       → IsTable l.hierarchy.0 l.hierarchy.1 l.self.0 l.self.1
       (done
       ++ take l.k
-      (map (cover_driving (path_at l.hierarchy.0 l.hierarchy.1 l.i)) (model_of l.hierarchy.0 l.hierarchy.1 l.i).covers));
+      (map (cover_driving (path_at l.hierarchy.0 l.hierarchy.1 l.i)) (model_of l.hierarchy.0
+      l.hierarchy.1 l.i).covers));
 }

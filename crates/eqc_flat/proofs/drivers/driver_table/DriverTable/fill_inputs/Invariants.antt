@@ -10,5 +10,6 @@ invariant-loop-k l = record {
   size : length l.self.0 ≡ length l.fn.self.0;
   step : (done : List Driving) → IsTable l.hierarchy.0 l.hierarchy.1 l.fn.self.0 l.fn.self.1 done
       → IsTable l.hierarchy.0 l.hierarchy.1 l.self.0 l.self.1
-      (done ++ take l.k (input_drivings (enumerate_from 0 (model l.hierarchy.0 l.hierarchy.1).inputs)));
+      (done ++ take l.k (input_drivings
+      (enumerate_from 0 (model l.hierarchy.0 l.hierarchy.1).inputs)));
 }

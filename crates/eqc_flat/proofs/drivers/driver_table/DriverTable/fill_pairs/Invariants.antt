@@ -11,6 +11,7 @@ invariant-loop-j l = record {
       → IsTable l.hierarchy.0 l.hierarchy.1 l.self.0 l.self.1
       (done
       ++ take l.j
-      (map (pair_driving (path_at l.hierarchy.0 l.hierarchy.1 l.i) l.p (model_of l.hierarchy.0 l.hierarchy.1 l.child))
+      (map (pair_driving (path_at l.hierarchy.0 l.hierarchy.1 l.i) l.p (model_of l.hierarchy.0
+      l.hierarchy.1 l.child))
       l.pairs));
 }

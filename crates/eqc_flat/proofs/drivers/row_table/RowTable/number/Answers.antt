@@ -1,4 +1,5 @@
-use Rattle.std.proofs.Common.{◌≡◌, ◌+◌, ◌<◌, ℕ, List, [], length, slice_index_or, arith, ◌∙◌, ap, subst}
+use Rattle.std.proofs.Common.{◌≡◌, ◌+◌, ◌<◌, ℕ, List, [], length, slice_index_or, arith, ◌∙◌, ap}
+use Rattle.std.proofs.Common.{subst}
 use Rattle.eqc_blif.specs.Netlist.{ModelOf, no_cover}
 use Rattle.eqc_hierarchy.specs.Hierarchy.{model}
 use Rattle.eqc_flat.specs.RowTable.{all_rows}
@@ -18,8 +19,15 @@ overflow_add-result c =
     let firsts = c.self.inside.firsts.items in
     let h = c.self.invariant in
     let library = c.self.inside.library.now in
-    let there : c.args.m < length library = omega (arith, c.requires.model, ap length c.self.view_is) in
-    let cover : c.args.k < length (model library c.args.m).covers = omega (arith, c.requires.cover, ap (λ (l : List ModelOf). length (model l c.args.m).covers) c.self.view_is) in
+    let there : c.args.m < length library =
+    omega (arith, c.requires.model, ap length c.self.view_is) in
+    let cover : c.args.k < length (model library c.args.m).covers =
+    omega (
+      arith,
+      c.requires.cover,
+      ap (λ (l : List ModelOf). length (model l c.args.m).covers)
+          c.self.view_is,
+    ) in
     let first = row_first library firsts _ c.args.m c.index.result.now h there c.index.ensures in
     let inside = rows_inside library c.args.m c.args.k there cover in
     omega (arith, first, inside, ap length h.rows_are, h.few)
@@ -29,8 +37,15 @@ overflow_cast-result c =
     let firsts = c.self.inside.firsts.items in
     let h = c.self.invariant in
     let library = c.self.inside.library.now in
-    let there : c.args.m < length library = omega (arith, c.requires.model, ap length c.self.view_is) in
-    let cover : c.args.k < length (model library c.args.m).covers = omega (arith, c.requires.cover, ap (λ (l : List ModelOf). length (model l c.args.m).covers) c.self.view_is) in
+    let there : c.args.m < length library =
+    omega (arith, c.requires.model, ap length c.self.view_is) in
+    let cover : c.args.k < length (model library c.args.m).covers =
+    omega (
+      arith,
+      c.requires.cover,
+      ap (λ (l : List ModelOf). length (model l c.args.m).covers)
+          c.self.view_is,
+    ) in
     let first = row_first library firsts _ c.args.m c.index.result.now h there c.index.ensures in
     let inside = rows_inside library c.args.m c.args.k there cover in
     omega (arith, first, inside, ap length h.rows_are, h.few)
@@ -40,8 +55,15 @@ returns-clause-within c =
     let firsts = c.self.inside.firsts.items in
     let h = c.self.invariant in
     let library = c.self.inside.library.now in
-    let there : c.args.m < length library = omega (arith, c.requires.model, ap length c.self.view_is) in
-    let cover : c.args.k < length (model library c.args.m).covers = omega (arith, c.requires.cover, ap (λ (l : List ModelOf). length (model l c.args.m).covers) c.self.view_is) in
+    let there : c.args.m < length library =
+    omega (arith, c.requires.model, ap length c.self.view_is) in
+    let cover : c.args.k < length (model library c.args.m).covers =
+    omega (
+      arith,
+      c.requires.cover,
+      ap (λ (l : List ModelOf). length (model l c.args.m).covers)
+          c.self.view_is,
+    ) in
     let first = row_first library firsts _ c.args.m c.index.result.now h there c.index.ensures in
     let inside = rows_inside library c.args.m c.args.k there cover in
     omega (arith, first, inside, ap (λ (l : List ModelOf). length (all_rows l)) c.self.view_is)
@@ -51,22 +73,40 @@ returns-clause-rows c =
     let firsts = c.self.inside.firsts.items in
     let h = c.self.invariant in
     let library = c.self.inside.library.now in
-    let there : c.args.m < length library = omega (arith, c.requires.model, ap length c.self.view_is) in
-    let cover : c.args.k < length (model library c.args.m).covers = omega (arith, c.requires.cover, ap (λ (l : List ModelOf). length (model l c.args.m).covers) c.self.view_is) in
+    let there : c.args.m < length library =
+    omega (arith, c.requires.model, ap length c.self.view_is) in
+    let cover : c.args.k < length (model library c.args.m).covers =
+    omega (
+      arith,
+      c.requires.cover,
+      ap (λ (l : List ModelOf). length (model l c.args.m).covers)
+          c.self.view_is,
+    ) in
     let first = row_first library firsts _ c.args.m c.index.result.now h there c.index.ensures in
     let inside = rows_inside library c.args.m c.args.k there cover in
-    let P : List ModelOf → Type 0 = λ l. slice_index_or (all_rows l) (c.index.result.now + c.args.k) [] ≡ (slice_index_or (model l c.args.m).covers c.args.k no_cover).rows in
-    subst P c.self.view_is (ap (λ (n : ℕ). slice_index_or (all_rows library) (n + c.args.k) []) first ∙ rows_at library c.args.m c.args.k there cover)
+    let P : List ModelOf → Type 0 = λ l. slice_index_or (all_rows l) (c.index.result.now + c.args.k)
+    [] ≡ (slice_index_or (model l c.args.m).covers c.args.k no_cover).rows in
+    subst P c.self.view_is (ap (λ (n : ℕ). slice_index_or (all_rows library) (n + c.args.k) [])
+    first ∙ rows_at library c.args.m c.args.k there cover)
 
 pub returns-clause-columns : goal.returns-clause-columns
 returns-clause-columns c =
     let firsts = c.self.inside.firsts.items in
     let h = c.self.invariant in
     let library = c.self.inside.library.now in
-    let there : c.args.m < length library = omega (arith, c.requires.model, ap length c.self.view_is) in
-    let cover : c.args.k < length (model library c.args.m).covers = omega (arith, c.requires.cover, ap (λ (l : List ModelOf). length (model l c.args.m).covers) c.self.view_is) in
+    let there : c.args.m < length library =
+    omega (arith, c.requires.model, ap length c.self.view_is) in
+    let cover : c.args.k < length (model library c.args.m).covers =
+    omega (
+      arith,
+      c.requires.cover,
+      ap (λ (l : List ModelOf). length (model l c.args.m).covers)
+          c.self.view_is,
+    ) in
     let first = row_first library firsts _ c.args.m c.index.result.now h there c.index.ensures in
     let P : List ModelOf → Type 0 = λ l.
     slice_index_or (all_columns l) (c.index.result.now + c.args.k) []
-    ≡ places_in (names_of (model l c.args.m)) (slice_index_or (model l c.args.m).covers c.args.k no_cover).columns in
-    subst P c.self.view_is (ap (λ (n : ℕ). slice_index_or (all_columns library) (n + c.args.k) []) first ∙ columns_at library c.args.m c.args.k there cover)
+    ≡ places_in (names_of (model l c.args.m)) (slice_index_or (model l c.args.m).covers c.args.k
+    no_cover).columns in
+    subst P c.self.view_is (ap (λ (n : ℕ). slice_index_or (all_columns library) (n + c.args.k) [])
+    first ∙ columns_at library c.args.m c.args.k there cover)

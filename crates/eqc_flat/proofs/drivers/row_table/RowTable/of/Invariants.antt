@@ -5,6 +5,7 @@ use Rattle.eqc_flat.proofs.drivers.row_table.RowTable.of.Given as goal
 
 abbrev pub invariant-loop-m : goal.invariant-loop-m
 invariant-loop-m l = record {
-  firsts : l.firsts.items ≡ map (λ m. length (flat_map rows_of (take m l.library))) (range_with_len 0 l.m);
+  firsts : l.firsts.items ≡ map (λ m. length (flat_map rows_of (take m l.library)))
+      (range_with_len 0 l.m);
   rows : l.rows.items ≡ flat_map rows_of (take l.m l.library);
 }

@@ -6,7 +6,8 @@ abbrev pub invariant-instances : goal.invariant-instances
 invariant-instances l = record {
   top : l.all.top ≡ l.top;
   within : l.k ≤ length l.all.models.items;
-  found : IsFound l.calls l.top (first_below l.calls l.top l.k) l.all.models.items l.all.firsts.items l.all.places.items l.all.signals;
+  found : IsFound l.calls l.top (first_below l.calls l.top l.k) l.all.models.items
+      l.all.firsts.items l.all.places.items l.all.signals;
 }
 
 abbrev pub decreases-instances : goal.decreases-instances
