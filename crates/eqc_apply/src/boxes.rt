@@ -267,7 +267,7 @@ impl Held {
 
     /// Takes an operation back that was offered at this level: its result, where another worker did
     /// it, which is held then, and none where it is still to be done. The call may wait. The errors
-    /// are why it stopped at the other worker, and 72.
+    /// are why it stopped at the other worker, and `Memory`.
     pub(crate) fn take_back<R: Wait>(
         &mut self,
         rt: &R,

@@ -188,8 +188,9 @@ fn insist<R: Wait>(
 /// No scan is under way, the worker's first announcement word announces nothing, and nothing is
 /// claimed or in hand. There is a cell, at most 2^39 names are held, the children are held or
 /// constants, and `var` is a variable of the forest that is below the children's. The call may wait
-/// for a stripe's lock. The error is 71 after a collection and a whole turn in which every slot was
-/// seen taken, 72 where a stripe's map can't grow, and 73 at 2^32 - 2 names held; then the same
+/// for a stripe's lock. The error is `NodeLimit` after a collection and a whole turn in which every
+/// slot was seen taken, `Memory` where a stripe's map can't grow, and `References` at 2^32 - 2 names
+/// held; then the same
 /// names are held as before.
 pub fn mk<R: Wait>(
     worker: &mut Worker,

@@ -171,7 +171,7 @@ pub(crate) fn reference_at<X>(table: &Table<X>, s: u32) -> &X
 }
 
 /// Puts a reference into the table; one that was there for the step is given back. Where memory is
-/// refused it is the new one that is given back. The error is 72 alone.
+/// refused it is the new one that is given back. The error is `Memory` alone.
 #[tactic(auto, using(crate::proofs::TableLaws::owned_held, crate::proofs::TableLaws::filled, crate::proofs::TableLaws::filled_none))]
 pub(crate) fn put<D: References>(
     d: &mut D,

@@ -232,7 +232,8 @@ impl Worker {
         self.held += 1;
     }
 
-    /// Counts a name up that is known to stay. The error is 73 alone, at 2^32 - 1 names held.
+    /// Counts a name up that is known to stay. The error is `References` alone, at 2^32 - 1 names
+    /// held.
     pub fn up(&mut self, x: u32) -> Result<Ref, Stop>
         requires ready { IsReady self.old.known.core }
         requires slot { 2 ≤ x }
@@ -433,8 +434,8 @@ impl Worker {
 
     /// Splits off a worker of the same forest, which holds nothing: it has the next number.
     ///
-    /// No scan is under way. The error is 75 where all numbers were given, or this is not worker
-    /// 0, and 72 where there is no memory.
+    /// No scan is under way. The error is `Workers` where all numbers were given, or this is not
+    /// worker 0, and `Memory` where there is none.
     pub fn split(&mut self) -> Result<Worker, SplitFault>
         requires { IsReady self.old.known.core }
         ensures split { IfOk result (λ other. IsSplit self.old self.new other) }

@@ -1,5 +1,6 @@
 //! Why an operation gave up, and the number that a report shows for it.
 
+use std::alloc::{AllocError, AllocFailed};
 use thiserror::Error;
 
 /// Why an operation gave up. What its object holds is then as before.
@@ -33,5 +34,27 @@ impl Stop {
             Stop::References => 73,
             Stop::Threads => 74,
         }
+    }
+}
+
+impl From<AllocError> for Stop {
+    ghost use Rattle.std.specs.Prelude.{◌≡◌};
+    ghost use Rattle.eqc_tree.specs.declared.stopping.Stop.TheVariants.{Memory};
+
+    ghost from_gives = { λ _ stop. stop ≡ Memory };
+
+    fn from(_refused: AllocError) -> Stop {
+        Stop::Memory
+    }
+}
+
+impl<T: Drop> From<AllocFailed<T>> for Stop {
+    ghost use Rattle.std.specs.Prelude.{◌≡◌};
+    ghost use Rattle.eqc_tree.specs.declared.stopping.Stop.TheVariants.{Memory};
+
+    ghost from_gives = { λ _ stop. stop ≡ Memory };
+
+    fn from(_refused: AllocFailed<T>) -> Stop {
+        Stop::Memory
     }
 }
