@@ -2,10 +2,12 @@
 //! line makes of it.
 ghost use Rattle.std.specs.Prelude.{◌≡◌, ◌++◌, IfOk, OnOk, IsTrue, true, false, is_some, Some, None, [], map};
 ghost use Rattle.std.specs.List.{list_any};
+ghost use Rattle.std.specs.Option.{option_map};
 ghost use Rattle.eqc_blif.specs.Words.{words, without_blanks};
 ghost use Rattle.eqc_blif.specs.Reading.{start, begun, models, current, is_in_cover, last_cover, opened, stands_in_model, is_bad_byte};
 ghost use Rattle.eqc_netlist.specs.Names.{is_named, has_twice};
 ghost use Rattle.eqc_netlist.specs.Names.{StandsTwice};
+ghost use Rattle.eqc_netlist.specs.TextRule.{rule_code};
 ghost use Rattle.eqc_blif.specs.Steps.{Takes, TakesLine, declares};
 
 pub(crate) mod kind;
@@ -110,33 +112,33 @@ impl Reader {
         Ok(())
     }
 
-    /// `.model` with the words of `line`: code 11 where the name was used before.
-    fn take_model(&mut self, alloc: Global, line: &[u8]) -> Result<Option<u8>, AllocError>
-        ensures { IfOk result (λ code. Takes self.old Kind.Model (words line.now) [] code self.new) }
+    /// `.model` with the words of `line`, which breaks `ModelTwice` where the name was used before.
+    fn take_model(&mut self, alloc: Global, line: &[u8]) -> Result<Option<Rule>, AllocError>
+        ensures { IfOk result (λ rule. Takes self.old Kind.Model (words line.now) [] (option_map rule_code rule) self.new) }
     {
         let (word, _) = split_first(line);
         let name = Name::new(alloc, word)?;
         self.close()?;
         if self.closed.has(&name) {
-            return Ok(Some(Rule::ModelTwice.code()));
+            return Ok(Some(Rule::ModelTwice));
         }
         self.open(alloc, name);
         Ok(None)
     }
 
-    /// `.end`: code 5 where no model is open.
-    fn take_end(&mut self) -> Result<Option<u8>, AllocError>
-        ensures { IfOk result (λ code. Takes self.old Kind.End [] [] code self.new) }
+    /// `.end`, which breaks `BehindEnd` where no model is open.
+    fn take_end(&mut self) -> Result<Option<Rule>, AllocError>
+        ensures { IfOk result (λ rule. Takes self.old Kind.End [] [] (option_map rule_code rule) self.new) }
     {
         if self.open_model.is_none() {
-            return Ok(Some(Rule::BehindEnd.code()));
+            return Ok(Some(Rule::BehindEnd));
         }
         self.close()?;
         Ok(None)
     }
 
-    /// A statement in the open model; code 5 where none is open. `rest` stands behind the command,
-    /// `line` is all.
+    /// A statement in the open model, which breaks `BehindEnd` where none is open. `rest` stands
+    /// behind the command, `line` is all.
     #[inline(always)]
     fn take_in_model(
         &mut self,
@@ -144,15 +146,15 @@ impl Reader {
         kind: Kind,
         rest: &[u8],
         line: &[u8],
-    ) -> Result<Option<u8>, AllocError>
+    ) -> Result<Option<Rule>, AllocError>
         requires { IsTrue (declares kind) }
-        ensures { IfOk result (λ code. Takes self.old kind (words rest.now) (without_blanks line.now) code self.new) }
+        ensures { IfOk result (λ rule. Takes self.old kind (words rest.now) (without_blanks line.now) (option_map rule_code rule) self.new) }
     {
         let Some(model) = &mut self.open_model else {
-            return Ok(Some(Rule::BehindEnd.code()));
+            return Ok(Some(Rule::BehindEnd));
         };
-        let code = model.take(alloc, kind, rest, line)?;
-        Ok(code)
+        let rule = model.take(alloc, kind, rest, line)?;
+        Ok(rule)
     }
 
     /// A statement of some kind; `rest` stands behind the command, `line` is all.
@@ -163,14 +165,14 @@ impl Reader {
         kind: Kind,
         rest: &[u8],
         line: &[u8],
-    ) -> Result<Option<u8>, AllocError>
-        ensures { IfOk result (λ code. Takes self.old kind (words rest.now) (without_blanks line.now) code self.new) }
+    ) -> Result<Option<Rule>, AllocError>
+        ensures { IfOk result (λ rule. Takes self.old kind (words rest.now) (without_blanks line.now) (option_map rule_code rule) self.new) }
     {
         match kind {
             Kind::Model => self.take_model(alloc, rest),
             Kind::End => self.take_end(),
-            Kind::Unknown => Ok(Some(Rule::UnknownCommand.code())),
-            Kind::Latch => Ok(Some(Rule::Latch.code())),
+            Kind::Unknown => Ok(Some(Rule::UnknownCommand)),
+            Kind::Latch => Ok(Some(Rule::Latch)),
             Kind::Skipped => Ok(None),
             _ => self.take_in_model(alloc, kind, rest, line),
         }
@@ -178,23 +180,27 @@ impl Reader {
 
     /// A row in the open model; a model without a name is opened for a first one.
     #[inline(always)]
-    fn take_row(&mut self, alloc: Global, line: &[u8]) -> Result<Option<u8>, AllocError>
-        ensures { IfOk result (λ code. Takes (opened Kind.Row self.old) Kind.Row [] (without_blanks line.now) code self.new) }
+    fn take_row(&mut self, alloc: Global, line: &[u8]) -> Result<Option<Rule>, AllocError>
+        ensures { IfOk result (λ rule. Takes (opened Kind.Row self.old) Kind.Row [] (without_blanks line.now) (option_map rule_code rule) self.new) }
     {
         self.open_before(alloc, Kind::Row)?;
-        let code = self.take_in_model(alloc, Kind::Row, &[], line)?;
-        Ok(code)
+        let rule = self.take_in_model(alloc, Kind::Row, &[], line)?;
+        Ok(rule)
     }
 
-    /// Takes a logical line, and answers its code where it has one.
+    /// Takes a logical line, and answers the rule that it breaks where it breaks one.
     // What each line goes through stays within the loop of `read`, though the search for a line at
     // fault calls it too: as a call it made short lines half as slow again.
     #[inline(always)]
-    pub(crate) fn take_line(&mut self, alloc: Global, line: &[u8]) -> Result<Option<u8>, AllocError>
-        ensures { IfOk result (λ code. TakesLine self.old line.now code self.new) }
+    pub(crate) fn take_line(
+        &mut self,
+        alloc: Global,
+        line: &[u8],
+    ) -> Result<Option<Rule>, AllocError>
+        ensures { IfOk result (λ rule. TakesLine self.old line.now (option_map rule_code rule) self.new) }
     {
         if has_bad_byte(line) {
-            return Ok(Some(Rule::ControlByte.code()));
+            return Ok(Some(Rule::ControlByte));
         }
         if begins_row(line) {
             return self.take_row(alloc, line);
@@ -202,8 +208,8 @@ impl Reader {
         let (word, rest) = split_first(line);
         let kind = kind_of(word);
         self.open_before(alloc, kind)?;
-        let code = self.take_statement(alloc, kind, rest, line)?;
-        Ok(code)
+        let rule = self.take_statement(alloc, kind, rest, line)?;
+        Ok(rule)
     }
 
     /// The cover that is being read.

@@ -26,7 +26,8 @@ fn take_lines(alloc: Global, text: &[u8], reader: &mut Reader) -> Result<(), Ref
             Some(line) => line,
             None => joined.as_slice(),
         };
-        if let Some(code) = reader.take_line(alloc, line)? {
+        if let Some(rule) = reader.take_line(alloc, line)? {
+            let code = rule.code();
             return Err(Refusal { line: number, code });
         }
     }

@@ -2,7 +2,9 @@
 //! output.
 ghost use Rattle.std.specs.Prelude.{◌≡◌, IfOk, length, MatchOption, [], nat_lt, IsTrue};
 ghost use Rattle.std.specs.List.{list_all};
+ghost use Rattle.std.specs.Option.{option_map};
 ghost use Rattle.eqc_netlist.specs.Cover.{cover_value};
+ghost use Rattle.eqc_netlist.specs.TextRule.{rule_code};
 ghost use Rattle.eqc_blif.specs.Words.{words, without_blanks, cover_of};
 ghost use Rattle.eqc_blif.specs.Reading.{is_column_value, is_output_value, row_output, has_row_shape, differs_from_first};
 ghost use Rattle.eqc_blif.specs.Steps.{TakesRow, code_behind};
@@ -94,16 +96,16 @@ fn differs_from_first(rows: &Rows<'_>, row: &[u8]) -> bool
     }
 }
 
-/// The code of a row behind these rows of `columns` columns, where it has one: 7 for another shape,
-/// 8 for another output.
-fn row_code(columns: usize, rows: &Rows<'_>, row: &[u8]) -> Option<u8>
-    ensures { result ≡ code_behind columns rows.now row.now }
+/// The rule that a row behind these rows of `columns` columns breaks, where it breaks one: that of
+/// its shape, or that of its output.
+fn row_rule(columns: usize, rows: &Rows<'_>, row: &[u8]) -> Option<Rule>
+    ensures { option_map rule_code result ≡ code_behind columns rows.now row.now }
 {
     if !has_row_shape(columns, row) {
-        return Some(Rule::RowShape.code());
+        return Some(Rule::RowShape);
     }
     if differs_from_first(rows, row) {
-        return Some(Rule::RowOutput.code());
+        return Some(Rule::RowOutput);
     }
     None
 }
@@ -138,19 +140,19 @@ impl Cover {
         }))
     }
 
-    /// Takes a row, with its blanks, and answers its code where it has one: 7 for another shape, 8
-    /// for another output than that of the first row.
-    pub(crate) fn take_row(&mut self, line: &[u8]) -> Result<Option<u8>, AllocError>
-        ensures { IfOk result (λ code. TakesRow self.old (without_blanks line.now) code self.new) }
+    /// Takes a row, with its blanks, and answers the rule that it breaks where it breaks one: that
+    /// of its shape, or that of its output, which is to be that of the first row.
+    pub(crate) fn take_row(&mut self, line: &[u8]) -> Result<Option<Rule>, AllocError>
+        ensures { IfOk result (λ rule. TakesRow self.old (without_blanks line.now) (option_map rule_code rule) self.new) }
     {
         let end = self.bytes.len();
         append_without_blanks(&mut self.bytes, line)?;
         let (before, row) = self.bytes.as_slice().split_at(end);
         let columns = self.columns.len();
-        let code = row_code(columns, &Rows::of(before, columns + 1), row);
-        if let Some(code) = code {
+        let rule = row_rule(columns, &Rows::of(before, columns + 1), row);
+        if let Some(rule) = rule {
             self.bytes.truncate(end);
-            return Ok(Some(code));
+            return Ok(Some(rule));
         }
         Ok(None)
     }

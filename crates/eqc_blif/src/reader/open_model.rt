@@ -1,9 +1,11 @@
 //! The model that is open while a text is read, and what each statement adds to it or is refused
 //! for.
 ghost use Rattle.std.specs.Prelude.{◌≡◌, ◌++◌, IfOk, OnOk, IsTrue, true, false, None};
+ghost use Rattle.std.specs.Option.{option_map};
 ghost use Rattle.eqc_blif.specs.Words.{words, without_blanks};
 ghost use Rattle.eqc_netlist.specs.Names.{has_twice};
 ghost use Rattle.eqc_netlist.specs.Names.{StandsTwice};
+ghost use Rattle.eqc_netlist.specs.TextRule.{rule_code};
 ghost use Rattle.eqc_blif.specs.Reading.{begun, OpenModel, last_cover, declared, with_inputs, with_outputs, with_instance, with_new_cover, with_new_row};
 ghost use Rattle.eqc_blif.specs.Steps.{MayChange, model_of, declares, declaration, declaration_code, inputs_code, outputs_code, cover_code, instance_code, row_code_in};
 
@@ -58,74 +60,74 @@ impl OpenModel {
         Ok(())
     }
 
-    /// `.inputs` with the words of `line`: code 12 where a name then stands twice.
+    /// `.inputs` with the words of `line`, which break `NameTwice` where a name then stands twice.
     #[inline(never)]
     pub(crate) fn take_inputs(
         &mut self,
         alloc: Global,
         line: &[u8],
-    ) -> Result<Option<u8>, AllocError>
-        ensures taken { IfOk result (λ code. MayChange (inputs_code (words line.now) self.old) (declared (with_inputs (words line.now)) self.old) code self.new) }
+    ) -> Result<Option<Rule>, AllocError>
+        ensures taken { IfOk result (λ rule. MayChange (inputs_code (words line.now) self.old) (declared (with_inputs (words line.now)) self.old) (option_map rule_code rule) self.new) }
         ensures name { self.new.model.name ≡ self.old.model.name }
     {
         self.close_cover()?;
         if !self.declarations.inputs.add_words(alloc, line)? {
-            return Ok(Some(Rule::NameTwice.code()));
+            return Ok(Some(Rule::NameTwice));
         }
         Ok(None)
     }
 
-    /// `.outputs` with the words of `line`: code 12 where a name then stands twice.
+    /// `.outputs` with the words of `line`, which break `NameTwice` where a name then stands twice.
     #[inline(never)]
     pub(crate) fn take_outputs(
         &mut self,
         alloc: Global,
         line: &[u8],
-    ) -> Result<Option<u8>, AllocError>
-        ensures taken { IfOk result (λ code. MayChange (outputs_code (words line.now) self.old) (declared (with_outputs (words line.now)) self.old) code self.new) }
+    ) -> Result<Option<Rule>, AllocError>
+        ensures taken { IfOk result (λ rule. MayChange (outputs_code (words line.now) self.old) (declared (with_outputs (words line.now)) self.old) (option_map rule_code rule) self.new) }
         ensures name { self.new.model.name ≡ self.old.model.name }
     {
         self.close_cover()?;
         if !self.declarations.outputs.add_words(alloc, line)? {
-            return Ok(Some(Rule::NameTwice.code()));
+            return Ok(Some(Rule::NameTwice));
         }
         Ok(None)
     }
 
-    /// `.names` with the words of `line`: code 10 where there is none.
+    /// `.names` with the words of `line`, which breaks `NoWord` where there is none.
     #[inline(never)]
     pub(crate) fn take_names(
         &mut self,
         alloc: Global,
         line: &[u8],
-    ) -> Result<Option<u8>, AllocError>
-        ensures taken { IfOk result (λ code. MayChange (cover_code (words line.now)) (with_new_cover (words line.now) self.old) code self.new) }
+    ) -> Result<Option<Rule>, AllocError>
+        ensures taken { IfOk result (λ rule. MayChange (cover_code (words line.now)) (with_new_cover (words line.now) self.old) (option_map rule_code rule) self.new) }
         ensures name { self.new.model.name ≡ self.old.model.name }
     {
         let Some(cover) = Cover::opened(alloc, line)? else {
-            return Ok(Some(Rule::NoWord.code()));
+            return Ok(Some(Rule::NoWord));
         };
         self.close_cover()?;
         self.cover = Some(cover);
         Ok(None)
     }
 
-    /// `.subckt` with the words of `line`: code 9 where one behind the first is no pair, code 10
-    /// where there is no word.
+    /// `.subckt` with the words of `line`, which breaks `NoPair` where one behind the first is no
+    /// pair, and `NoWord` where there is no word.
     #[inline(never)]
     pub(crate) fn take_subckt(
         &mut self,
         alloc: Global,
         line: &[u8],
-    ) -> Result<Option<u8>, AllocError>
-        ensures taken { IfOk result (λ code. MayChange (instance_code (words line.now)) (declared (with_instance (words line.now)) self.old) code self.new) }
+    ) -> Result<Option<Rule>, AllocError>
+        ensures taken { IfOk result (λ rule. MayChange (instance_code (words line.now)) (declared (with_instance (words line.now)) self.old) (option_map rule_code rule) self.new) }
         ensures name { self.new.model.name ≡ self.old.model.name }
     {
         let Some((model, rest)) = split_word(line) else {
-            return Ok(Some(Rule::NoWord.code()));
+            return Ok(Some(Rule::NoWord));
         };
         let Some(pairs) = pairs_in(alloc, rest)? else {
-            return Ok(Some(Rule::NoPair.code()));
+            return Ok(Some(Rule::NoPair));
         };
         let model = Name::new(alloc, model)?;
         self.close_cover()?;
@@ -133,16 +135,16 @@ impl OpenModel {
         Ok(None)
     }
 
-    /// A row: code 6 outside of a cover, else those of `Cover::take_row`.
-    pub(crate) fn take_row(&mut self, line: &[u8]) -> Result<Option<u8>, AllocError>
-        ensures taken { IfOk result (λ code. MayChange (row_code_in (without_blanks line.now) self.old) (with_new_row (without_blanks line.now) self.old) code self.new) }
+    /// A row, which breaks `RowOutsideCover` outside of a cover, else what `Cover::take_row` says.
+    pub(crate) fn take_row(&mut self, line: &[u8]) -> Result<Option<Rule>, AllocError>
+        ensures taken { IfOk result (λ rule. MayChange (row_code_in (without_blanks line.now) self.old) (with_new_row (without_blanks line.now) self.old) (option_map rule_code rule) self.new) }
         ensures name { self.new.model.name ≡ self.old.model.name }
     {
         let Some(cover) = &mut self.cover else {
-            return Ok(Some(Rule::RowOutsideCover.code()));
+            return Ok(Some(Rule::RowOutsideCover));
         };
-        let code = cover.take_row(line)?;
-        Ok(code)
+        let rule = cover.take_row(line)?;
+        Ok(rule)
     }
 
     /// A statement in the model. `rest` stands behind the command, `line` is all.
@@ -155,9 +157,9 @@ impl OpenModel {
         kind: Kind,
         rest: &[u8],
         line: &[u8],
-    ) -> Result<Option<u8>, AllocError>
+    ) -> Result<Option<Rule>, AllocError>
         requires { IsTrue (declares kind) }
-        ensures taken { IfOk result (λ code. MayChange (declaration_code kind (words rest.now) (without_blanks line.now) self.old) (declaration kind (words rest.now) (without_blanks line.now) self.old) code self.new) }
+        ensures taken { IfOk result (λ rule. MayChange (declaration_code kind (words rest.now) (without_blanks line.now) self.old) (declaration kind (words rest.now) (without_blanks line.now) self.old) (option_map rule_code rule) self.new) }
         ensures name { self.new.model.name ≡ self.old.model.name }
     {
         match kind {

@@ -7,12 +7,11 @@ use Rattle.eqc_blif.proofs.reader.Reader.take_model.Goals as goal
 
 pub returns-then-has : goal.returns-then-has
 returns-then-has c =
-    rw c.code.ensures
-    (model_again c.self.inside.closed c.args.self.now c.close.new.self (words c.args.line.now)
+    model_again c.self.inside.closed c.args.self.now c.close.new.self (words c.args.line.now)
     c.in_ok-name.name c.has.result
     (ap (λ st. st.closed) (c.self.view_is ∙ c.in_ok-close.ensures)) (c.in_ok-name.ensures
     ∙ c.split_first.ensures.first)
-    c.has.ensures c.if-has.true)
+    c.has.ensures c.if-has.true
 
 pub open-requires : goal.open-requires
 open-requires c =

@@ -1,6 +1,8 @@
-use Rattle.std.proofs.Common.{◌≡◌, ◌+◌, ◌∙◌, None, sym, length, subst}
+use Rattle.std.proofs.Common.{◌≡◌, ◌+◌, ◌∙◌, None, sym, ap, length, subst}
+use Rattle.std.specs.Option.{option_map}
 use Rattle.eqc_blif.specs.Netlist.{CoverOf}
 use Rattle.eqc_netlist.specs.Rows.{rows_in}
+use Rattle.eqc_netlist.specs.TextRule.{rule_code}
 use Rattle.eqc_blif.specs.Words.{without_blanks}
 use Rattle.eqc_blif.specs.Steps.{TakesRow, code_behind}
 use Rattle.eqc_blif.proofs.RowLemmas.{cut_code, row_put_behind, row_put_whole}
@@ -13,8 +15,8 @@ invariant_of-self-in_default c =
     let row = without_blanks c.args.line.now in
     let put = c.in_ok-append_without_blanks.ensures in
     let known : None ≡ code_behind columns (rows_in (columns + 1) bytes) row =
-    sym c.in_default.is
-    ∙ (c.row_code-code.ensures
+    sym (ap (option_map rule_code) c.in_default.is)
+    ∙ (c.row_rule-rule.ensures
     ∙ cut_code c.len-columns.result columns c.len-end.result bytes row c.as_slice.result.now
     c.split_at.result.0.now
     c.split_at.result.1.now c.of.result
@@ -30,8 +32,8 @@ returns c =
     let row = without_blanks c.args.line.now in
     let put = c.in_ok-append_without_blanks.ensures in
     let known : None ≡ code_behind columns (rows_in (columns + 1) bytes) row =
-    sym c.in_default.is
-    ∙ (c.row_code-code.ensures
+    sym (ap (option_map rule_code) c.in_default.is)
+    ∙ (c.row_rule-rule.ensures
     ∙ cut_code c.len-columns.result columns c.len-end.result bytes row c.as_slice.result.now
     c.split_at.result.0.now
     c.split_at.result.1.now c.of.result
