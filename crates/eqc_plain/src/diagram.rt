@@ -19,10 +19,8 @@ fn reach(reached: &mut IndexSet<usize>, x: usize) -> Result<(), Stop>
     ensures takes { OnOk result (Takes reached.old.keys reached.new.keys x) }
     ensures only { IfErr result (λ s. s ≡ Stop.Memory) }
 {
-    match reached.insert(x) {
-        Ok(_) => Ok(()),
-        Err(_) => Err(Stop::Memory),
-    }
+    reached.insert(x)?;
+    Ok(())
 }
 
 /// The place of a number that is reached.
@@ -61,9 +59,7 @@ impl Store {
         let mut numbers = Vec::new(alloc);
         'places: while numbers.len() < reached.len() {
             let number = self.copy_next(&mut copy, reached, numbers.as_slice())?;
-            if numbers.push(number).is_err() {
-                return Err(Stop::Memory);
-            }
+            numbers.push(number)?;
         }
         let top = numbers[place(reached, f)] as usize;
         Ok(Diagram { store: copy, top })
@@ -87,10 +83,8 @@ impl Store {
             self.reach_children(&mut reached, x)?;
             k += 1;
         }
-        match reached.sort() {
-            Ok(()) => Ok(reached),
-            Err(_) => Err(Stop::Memory),
-        }
+        reached.sort()?;
+        Ok(reached)
     }
 
     /// Takes the children of a number, where it is a node's, into those that are reached. The error

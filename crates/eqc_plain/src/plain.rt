@@ -31,7 +31,7 @@ impl Plain {
     /// Operations take as many turns as they need: they stop for nodes only where all slots are
     /// taken.
     ///
-    /// `nodes` is from 1 to 1,048,574. The error is 72 alone.
+    /// `nodes` is from 1 to 1,048,574. The error is `Memory` alone.
     pub fn new(alloc: Global, vars: u16, nodes: u32) -> Result<Plain, Stop>
         requires some { 1 ≤ nodes }
         requires few { nodes ≤ 1048574 }
@@ -232,10 +232,8 @@ impl<R> Diagrams<R> for Plain {
         ensures only { IfErr result (λ s. s ≡ Stop.Memory) }
     {
         let diagram = self.store.diagram(alloc, f.node as usize)?;
-        match diagram.store.least(alloc, variables, diagram.top) {
-            Ok(values) => Ok(Some(values)),
-            Err(_) => Err(Stop::Memory),
-        }
+        let values = diagram.store.least(alloc, variables, diagram.top)?;
+        Ok(Some(values))
     }
 }
 

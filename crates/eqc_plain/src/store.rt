@@ -36,9 +36,7 @@ impl Store {
         ensures nodes { IfOk result (λ s. s.nodes ≡ []) }
         ensures only { IfErr result (λ s. s ≡ Stop.Memory) }
     {
-        let Ok(counts) = vec![in alloc; 0u32; 2] else {
-            return Err(Stop::Memory);
-        };
+        let counts = vec![in alloc; 0u32; 2]?;
         Ok(Store {
             variables,
             limit,
@@ -88,9 +86,7 @@ impl Store {
         if self.nodes.len() == self.limit as usize {
             return Err(Stop::NodeLimit);
         }
-        if self.counts.push(0).is_err() {
-            return Err(Stop::Memory);
-        }
+        self.counts.push(0)?;
         let Ok(slot) = self.nodes.add(pack_node(variable, low, high)) else {
             self.counts.pop();
             return Err(Stop::Memory);

@@ -37,12 +37,12 @@ least-requires-clause-depends g c =
     (subst P (held_is s.variables s.nodes _ s.counts.items _ c.requires.held).tree
     c.requires.depends)
 
-pub returns-in-Ok-clause-least : goal.returns-in-Ok-clause-least
-returns-in-Ok-clause-least g c =
+pub returns-clause-least : goal.returns-clause-least
+returns-clause-least g c =
     let s = c.args.self.now.store in
-    let P : Tree → Type 0 = λ t. Some c.in-Ok.values.items
+    let P : Tree → Type 0 = λ t. Some c.in_ok-values.values.items
     ≡ find (λ values. value t (assigned c.args.variables.now values))
     (assignments (length c.args.variables.now)) in
     subst P (sym (held_is s.variables s.nodes _ s.counts.items _ c.requires.held).tree)
-    (c.in-Ok.ensures ∙ copy_least s _ _ _ c.in_ok-diagram.ensures.diagram.copy
+    (c.in_ok-values.ensures ∙ copy_least s _ _ _ c.in_ok-diagram.ensures.diagram.copy
     c.args.variables.now)

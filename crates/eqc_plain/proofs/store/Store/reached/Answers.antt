@@ -20,8 +20,8 @@ places-smaller c =
     let less : c.places.k < length xs = omega (arith, c.places-test.true, c.len.ensures.len) in
     omega (arith, few, less)
 
-pub returns-in-Ok-clause-reached : goal.returns-in-Ok-clause-reached
-returns-in-Ok-clause-reached c =
+pub returns-clause-reached : goal.returns-clause-reached
+returns-clause-reached c =
     let i = c.places.invariant in
     let xs = c.places.reached.keys in
     let end : c.places.k ≡ length xs = omega (arith, i.upto, c.places-test.false, c.len.ensures.len)
@@ -29,4 +29,4 @@ returns-in-Ok-clause-reached c =
     sorted_reached c.args.self.now.nodes xs c.sort.new.self.keys i.zero i.one i.within
     (subst (λ n. AreFollowed c.args.self.now.nodes xs n) end i.followed) c.len.ensures.unique
     c.sort.ensures.reordered.1 c.sort.ensures.reordered.2 (IsNonDecreasingBy-from_sort (λ x. x)
-    c.sort.new.self.keys c.in-Ok.ensures.sorted)
+    c.sort.new.self.keys c.in_ok-sort.ensures.sorted)
