@@ -81,10 +81,7 @@ impl Forest {
         ensures only { IfErr result (λ s. s ≡ Stop.Memory) }
     {
         let sizes = sizes_for(u32::from(vars), nodes, cells, workers);
-        match plant(alloc, Origin { sizes, literals: 0 }) {
-            Ok(worker) => Ok(worker),
-            Err(_) => Err(Stop::Memory),
-        }
+        Ok(plant(alloc, Origin { sizes, literals: 0 })?)
     }
 
     /// Worker 0 of a new forest with as many variables as nodes, each slot having the literal of a
@@ -111,12 +108,8 @@ impl Forest {
             sizes,
             literals: nodes,
         };
-        let Ok(worker) = plant(alloc, origin) else {
-            return Err(Stop::Memory);
-        };
-        match stock::literal_references(alloc, nodes) {
-            Ok(references) => Ok((worker, references)),
-            Err(_) => Err(Stop::Memory),
-        }
+        let worker = plant(alloc, origin)?;
+        let references = stock::literal_references(alloc, nodes)?;
+        Ok((worker, references))
     }
 }

@@ -434,7 +434,7 @@ impl Worker {
 
     /// Splits off a worker of the same forest, which holds nothing: it has the next number.
     ///
-    /// No scan is under way. The error is `Workers` where all numbers were given, or this is not
+    /// No scan is under way. The error is `NoneLeft` where all numbers were given, or this is not
     /// worker 0, and `Memory` where there is none.
     pub fn split(&mut self) -> Result<Worker, SplitFault>
         requires { IsReady self.old.known.core }
