@@ -45,9 +45,7 @@ fn by_columns<R, D: Diagrams<R>>(
         let table = if on { matched } else { !matched };
         return by_table(rt, d, columns, table, [true; MOST_COLUMNS]);
     }
-    let Ok(both) = cofactors(alloc, rows) else {
-        return Err(Stop::Memory);
-    };
+    let both = cofactors(alloc, rows)?;
     if !both.differ {
         return by_columns(alloc, rt, d, others, &both.when_true, on);
     }
@@ -136,9 +134,7 @@ fn by_all_rows<R, D: Diagrams<R>>(
     ensures { Makes D.entry (D.holding d.old) (D.holding d.new) result (λ a. cover_value rows.now (said D.entry columns.now a)) }
 {
     let on = is_on_set(rows);
-    let Ok(plan) = plan_cover(alloc, rows, columns.len()) else {
-        return Err(Stop::Memory);
-    };
+    let plan = plan_cover(alloc, rows, columns.len())?;
     if plan.expands {
         return by_columns(alloc, rt, d, columns, &plan.rows, on);
     }
@@ -181,8 +177,8 @@ fn by_kept<R, D: Diagrams<R>>(
 ///
 /// `columns` are references of `d`, one for each column, and `rows` are those of the cover. Where
 /// the cover's value is `known` as splits, or `covers` has met it before, its rows needn't be gone
-/// through again. The errors are those of the diagrams, 71, 72 and 73, and 72 where memory is
-/// refused. All other references are given back, whatever the answer.
+/// through again. The errors are those of the diagrams, and `Memory` where memory is refused. All
+/// other references are given back, whatever the answer.
 pub fn cover_diagram<R, D: Diagrams<R>>(
     alloc: Global,
     rt: &R,

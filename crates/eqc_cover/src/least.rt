@@ -138,9 +138,7 @@ fn by_blocks<R, D: Diagrams<R>>(
     ensures kept { Keeps (D.holding d.old) (D.holding d.new) }
     ensures only { IfErr result (λ s. s ≢ Stop.Threads) }
 {
-    let Ok(mut values) = Vec::with_capacity(alloc, variables.len()) else {
-        return Err(Stop::Memory);
-    };
+    let mut values = Vec::with_capacity(alloc, variables.len())?;
     let mut rest = d.copy(f)?;
     let mut longest = 1;
     'tries: while values.len() < variables.len() {
@@ -165,7 +163,7 @@ fn by_blocks<R, D: Diagrams<R>>(
 /// plays no part. Where the diagrams can't tell it from their nodes, it is found by applies.
 ///
 /// `f` has to be true under some assignment, and to depend on no variable but these, of which none
-/// may stand twice. The errors are those of the diagrams, 71, 72 and 73, and 72 where there is no
+/// may stand twice. The errors are those of the diagrams, and `Memory` where there is no
 /// memory for the assignment. All references are given back, whatever the answer.
 pub fn least_over<R, D: Diagrams<R>>(
     alloc: Global,

@@ -6,7 +6,7 @@ use Rattle.eqc_cover.specs.Table.{table_value}
 use Rattle.eqc_cover.proofs.HeldLaws.{held_rest}
 use Rattle.eqc_cover.proofs.MatchingLaws.{no_rows, no_columns, expansion_said}
 use Rattle.eqc_cover.proofs.MakingLaws.{reference_makes, makes_as, makes_held, makes_one_held}
-use Rattle.eqc_cover.proofs.MakingLaws.{memory_makes, first_held, turns_owned, joined_makes}
+use Rattle.eqc_cover.proofs.MakingLaws.{first_held, turns_owned, joined_makes}
 use Rattle.eqc_cover.proofs.RowLaws.{free_columns, unconstrained_said, length_said}
 use Rattle.eqc_cover.proofs.TableLaws.{all_open}
 use Rattle.eqc_cover.proofs.SplitLaws.{on_said, off_said}
@@ -39,18 +39,15 @@ returns-then-has_free_row g t c =
     (sym c.has_free_row.ensures ∙ c.if-has_free_row.true)) c.constant-then-has_free_row.ensures.ok
     c.constant-then-has_free_row.ensures.stop c.constant-then-has_free_row.ensures.only
 
-pub returns-in_default-cofactors : goal.returns-in_default-cofactors
-returns-in_default-cofactors g t c = memory_makes g.D.References.entry _ _
-
 pub returns-then-not-both : goal.returns-then-not-both
 returns-then-not-both g t c =
     makes_as g.D.References.entry _ _ c.by_columns.result _ _
     (λ a.
     unconstrained_said g.D.References.entry c.args.on c.args.rows.now c.deref.result.now
     c.in-Some.column.now c.args.columns.now
-    c.in-Some.others.now a c.in-Some.ensures.cases.0 (sym c.in-Ok.ensures.differ
+    c.in-Some.others.now a c.in-Some.ensures.cases.0 (sym c.in_ok-both.ensures.differ
     ∙ c.if-not-both.true)
-    (rw c.deref.ensures.value c.in-Ok.ensures.when_true)) c.by_columns.ensures
+    (rw c.deref.ensures.value c.in_ok-both.ensures.when_true)) c.by_columns.ensures
 
 pub by_table-requires-clause-depends : goal.by_table-requires-clause-depends
 by_table-requires-clause-depends g t c = all_open c.if-on.table (length c.args.columns.now)
@@ -105,6 +102,6 @@ returns g t c =
     expansion_said g.D.References.entry c.args.on c.args.rows.now c.deref-2.result.now
     c.deref-3.result.now c.in-Some.column.now
     c.args.columns.now c.in-Some.others.now a c.in-Some.ensures.cases.0 (rw c.deref-2.ensures.value
-    c.in-Ok.ensures.when_true)
-    (rw c.deref-3.ensures.value c.in-Ok.ensures.when_false)) c.in_ok-high.ensures
+    c.in_ok-both.ensures.when_true)
+    (rw c.deref-3.ensures.value c.in_ok-both.ensures.when_false)) c.in_ok-high.ensures
     c.by_columns-low.ensures c.chosen.ensures

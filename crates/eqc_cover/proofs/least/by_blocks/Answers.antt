@@ -12,9 +12,9 @@ tries-init g c = record {
   held = c.in_ok-rest.ensures.ok.held;
   variables = c.in_ok-rest.ensures.ok.variables;
   some = omega arith;
-  size = omega (arith, ap length c.in-Ok.ensures.items);
+  size = omega (arith, ap length c.in_ok-values.ensures.items);
   chosen = starts_chosen _ _ _ _ c.in_ok-rest.ensures.ok.function c.requires.satisfiable
-      c.in-Ok.ensures.items;
+      c.in_ok-values.ensures.items;
 }
 
 pub tries-smaller : goal.tries-smaller
@@ -28,21 +28,21 @@ tries-smaller g c =
     let within : k ≤ length vs - m = omega arith in
     let long : length (take k (take (length vs - c.len-in-tries.result) (drop c.len-in-tries.result
     vs))) ≡ k = block_long vs c.len-in-tries.result k (omega arith) in
-    let values = c.in-Ok-decide.ensures.values
+    let values = c.in-Ok.ensures.values
     ∙ ap (λ n. c.tries.values.items ++ decided c.in_ok-narrows.narrows n) long in
     let more = ap length values
     ∙ length-append c.tries.values.items (decided c.in_ok-narrows.narrows k) in
     let most = decided_most c.in_ok-narrows.narrows k (omega arith) in
-    let next = c.in-Ok-decide.ensures.next in
+    let next = c.in-Ok.ensures.next in
     let nothing : (length vs - length c.decide.new.values.items ≡ length vs - m)
-    → c.in-Ok-decide.next < c.tries.longest =
+    → c.in-Ok.next < c.tries.longest =
     λ same.
     let none : length (decided c.in_ok-narrows.narrows k) ≡ 0 = omega arith in
     let shorter = next.less (ap (decided c.in_ok-narrows.narrows) long
     ∙ nil_from_length (decided c.in_ok-narrows.narrows k) none) in
     omega arith in
     tries_fall (length vs) (length vs - m) (length vs - length c.decide.new.values.items)
-    c.tries.longest c.in-Ok-decide.next (omega arith) nothing (omega (arith, next.most))
+    c.tries.longest c.in-Ok.next (omega arith) nothing (omega (arith, next.most))
     c.tries.invariant.some
 
 pub tries-preserved : goal.tries-preserved
@@ -56,14 +56,14 @@ tries-preserved g c =
     let within : k ≤ length vs - m = omega arith in
     let long : length (take k (take (length vs - c.len-in-tries.result) (drop c.len-in-tries.result
     vs))) ≡ k = block_long vs c.len-in-tries.result k (omega arith) in
-    let values = c.in-Ok-decide.ensures.values
+    let values = c.in-Ok.ensures.values
     ∙ ap (λ n. c.tries.values.items ++ decided c.in_ok-narrows.narrows n) long in
     let more = ap length values
     ∙ length-append c.tries.values.items (decided c.in_ok-narrows.narrows k) in
     record {
       held = λ e. omega (arith, c.tries.invariant.held e, c.in_ok-narrows.ensures.replaced.held e);
       variables = c.in_ok-narrows.ensures.replaced.variables ∙ c.tries.invariant.variables;
-      some = c.in-Ok-decide.ensures.next.some;
+      some = c.in-Ok.ensures.next.some;
       size = omega (arith, more, decided_most c.in_ok-narrows.narrows k (omega arith));
       chosen =
           chooses_decided c.in_ok-narrows.narrows k _ _ _ _ _ c.tries.values.items _
