@@ -64,18 +64,14 @@ fn step_diagram<R, D: Diagrams<R>>(
             rows,
             known,
         } => {
-            let Ok(columns) = references(alloc, table, &columns) else {
-                return Err(Stop::Memory);
-            };
+            let columns = references(alloc, table, &columns)?;
             cover_diagram(alloc, rt, d, covers, known, &columns, rows)
         }
         StepDriver::Table {
             columns,
             table: truth,
         } => {
-            let Ok(columns) = references(alloc, table, &columns) else {
-                return Err(Stop::Memory);
-            };
+            let columns = references(alloc, table, &columns)?;
             by_table(rt, d, &columns, truth, [true; MOST_COLUMNS])
         }
     }
@@ -125,10 +121,8 @@ fn note_due(
     if last <= end {
         return Ok(());
     }
-    match due.push(Reverse((last, step))) {
-        Ok(()) => Ok(()),
-        Err(_) => Err(Stop::Memory),
-    }
+    due.push(Reverse((last, step)))?;
+    Ok(())
 }
 
 impl<X> StepDiagrams<X> {
@@ -137,7 +131,7 @@ impl<X> StepDiagrams<X> {
     /// no other, and what it uses is counted. A step stays where a later turn needs it as a goal,
     /// or for a step that wasn't made, and is else given back after its last use.
     ///
-    /// The errors are those of the diagrams, 71, 72 and 73, and 72 where memory is refused. What
+    /// The errors are those of the diagrams, and `Memory` where memory is refused. What
     /// was built by then stays.
     pub fn complete<R, D: Diagrams<R, Ref = X>>(
         &mut self,
@@ -157,9 +151,7 @@ impl<X> StepDiagrams<X> {
         ensures counted { (made : List ℕ) × AreCounted plan.now.steps made self.old.used.items self.new.used.items }
         ensures only { IfErr result (λ s. s ≢ Stop.Threads) }
     {
-        let Ok(mut steps) = wanted(alloc, plan, &self.table, &mut self.until, goals, turn) else {
-            return Err(Stop::Memory);
-        };
+        let mut steps = wanted(alloc, plan, &self.table, &mut self.until, goals, turn)?;
         let end = moment(turn, plan.steps.len());
         while let Some(step) = steps.pop() {
             note_due(&mut self.due, plan.last.at(step), step, end)?;

@@ -17,14 +17,14 @@ copy-requires g c = owned_held g.D.References.entry _ c.args.table.now _ _ c.req
 pub cover_diagram-requires-clause-held : goal.cover_diagram-requires-clause-held
 cover_diagram-requires-clause-held g c = found_held g.D.References.entry _ c.args.table.now
     c.in-Cover.columns c.deref.result.now c.requires.kept.owned (rw c.deref.ensures.value
-    c.in-Ok.ensures)
+    c.in_ok-columns-in-Cover.ensures)
 
 pub cover_diagram-requires-clause-known : goal.cover_diagram-requires-clause-known
 cover_diagram-requires-clause-known g c =
     let found = c.deref.result.now in
     let size : length (map (λ r. Some r.now) found) ≡ length (map (reference_of c.args.table.now)
     c.in-Cover.columns) =
-    ap length (rw c.deref.ensures.value c.in-Ok.ensures) in
+    ap length (rw c.deref.ensures.value c.in_ok-columns-in-Cover.ensures) in
     let same : length c.in-Cover.columns ≡ length found =
     omega (
       arith,
@@ -36,13 +36,14 @@ cover_diagram-requires-clause-known g c =
     subst (λ n. IfSome c.in-Cover.known (λ e. IsExpansionOf c.in-Cover.rows.now n e.now)) same
     c.in-Cover.ensures.2
 
-pub returns-in-Ok : goal.returns-in-Ok
-returns-in-Ok g c =
+pub returns-in_ok-columns-in-Cover : goal.returns-in_ok-columns-in-Cover
+returns-in_ok-columns-in-Cover g c =
     makes_as g.D.References.entry _ _ c.cover_diagram.result _ _
     (λ a.
     ap (cover_value c.in-Cover.rows.now)
     (found_said g.D.References.entry c.args.steps.now.pair c.args.table.now c.in-Cover.columns
-    c.deref.result.now a c.requires.kept.built (rw c.deref.ensures.value c.in-Ok.ensures))
+    c.deref.result.now a c.requires.kept.built
+    (rw c.deref.ensures.value c.in_ok-columns-in-Cover.ensures))
     ∙ c.in-Cover.ensures.1 a)
     c.cover_diagram.ensures
 
@@ -50,14 +51,14 @@ pub by_table-requires-clause-held : goal.by_table-requires-clause-held
 by_table-requires-clause-held g c =
     found_held g.D.References.entry _ c.args.table.now c.in-Table.columns
     c.deref-in-Table.result.now c.requires.kept.owned
-    (rw c.deref-in-Table.ensures.value c.in-Ok-references.ensures)
+    (rw c.deref-in-Table.ensures.value c.in_ok-columns-in-Table.ensures)
 
 pub by_table-requires-clause-depends : goal.by_table-requires-clause-depends
 by_table-requires-clause-depends g c =
     let found = c.deref-in-Table.result.now in
     let size : length (map (λ r. Some r.now) found) ≡ length (map (reference_of c.args.table.now)
     c.in-Table.columns) = ap length (rw c.deref-in-Table.ensures.value
-    c.in-Ok-references.ensures) in
+    c.in_ok-columns-in-Table.ensures) in
     all_open c.in-Table.truth (length found)
     (omega (
       arith,
@@ -67,13 +68,13 @@ by_table-requires-clause-depends g c =
       length-map c.in-Table.columns (reference_of c.args.table.now),
     ))
 
-pub returns-in-Ok-references : goal.returns-in-Ok-references
-returns-in-Ok-references g c =
+pub returns-in_ok-columns-in-Table : goal.returns-in_ok-columns-in-Table
+returns-in_ok-columns-in-Table g c =
     makes_as g.D.References.entry _ _ c.by_table.result _ _
     (λ a.
     ap (table_value c.in-Table.truth)
     (found_said g.D.References.entry c.args.steps.now.pair c.args.table.now c.in-Table.columns
     c.deref-in-Table.result.now a c.requires.kept.built
-    (rw c.deref-in-Table.ensures.value c.in-Ok-references.ensures))
+    (rw c.deref-in-Table.ensures.value c.in_ok-columns-in-Table.ensures))
     ∙ c.in-Table.ensures.2 a)
     c.by_table.ensures
