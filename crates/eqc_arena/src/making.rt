@@ -189,9 +189,8 @@ fn insist<R: Wait>(
 /// claimed or in hand. There is a cell, at most 2^39 names are held, the children are held or
 /// constants, and `var` is a variable of the forest that is below the children's. The call may wait
 /// for a stripe's lock. The error is `NodeLimit` after a collection and a whole turn in which every
-/// slot was seen taken, `Memory` where a stripe's map can't grow, and `References` at 2^32 - 2 names
-/// held; then the same
-/// names are held as before.
+/// slot was seen taken, `Memory` where a stripe's map can't grow, and `References` at 2^32 - 2
+/// names held; then the same names are held as before.
 pub fn mk<R: Wait>(
     worker: &mut Worker,
     rt: &R,

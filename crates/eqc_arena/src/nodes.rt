@@ -34,7 +34,8 @@ fn count(worker: &mut Worker, x: u32) -> Result<Ref, Stop>
 
 /// One more reference of `f`, which is a constant or a node that is held.
 ///
-/// No scan is under way. The error is `References` alone, at 2^32 - 1 names held: then nothing has changed.
+/// No scan is under way. The error is `References` alone, at 2^32 - 1 names held: then nothing has
+/// changed.
 pub fn copy(worker: &mut Worker, f: &Ref) -> Result<Ref, Stop>
     requires ready { IsReady worker.old.known.core }
     requires held { IsHeld worker.old.known.core f.now.number }
@@ -63,8 +64,8 @@ pub fn give_back(worker: &mut Worker, f: Ref)
 
 /// The variable of a node that is held, and references of its children, the one at 0 first.
 ///
-/// `f` is no constant, and no scan is under way. The error is `References` alone, at 2^32 - 2 names held:
-/// then the same names are held as before.
+/// `f` is no constant, and no scan is under way. The error is `References` alone, at 2^32 - 2 names
+/// held: then the same names are held as before.
 pub fn children(worker: &mut Worker, f: &Ref) -> Result<(u16, Ref, Ref), Stop>
     requires ready { IsReady worker.old.known.core }
     requires held { 0 < times f.now.number worker.old.known.core.held }

@@ -118,7 +118,8 @@ pub fn peek_same(worker: &Worker, snapshot: &Snapshot, f: &Ref) -> bool
 
 /// A reference of what a snapshot is of, which is counted up. The snapshot stays out.
 ///
-/// No scan is under way. The error is `References` alone, at 2^32 - 1 names held: then nothing has changed.
+/// No scan is under way. The error is `References` alone, at 2^32 - 1 names held: then nothing has
+/// changed.
 pub fn keep(worker: &mut Worker, snapshot: &Snapshot) -> Result<Ref, Stop>
     requires ready { IsReady worker.old.known.core }
     requires out { IsOut worker.old.known.core snapshot.now }
