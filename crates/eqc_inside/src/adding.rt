@@ -18,12 +18,12 @@ use crate::entering::{CHARACTERS, entered};
 use crate::inside::{Inside, NONE, Owned, literal_of};
 use crate::rounds::moved;
 use crate::searching::mark;
+use eqc_adders::{Limits, Sums, copy_with_chains, has_adders, words_of};
 use eqc_build::Steps;
 use eqc_compare::{Alike, Progress, Stage, is_settled};
 use eqc_gates::needed_within;
 use eqc_graph::{Node, node_of};
 use eqc_netlist::Name;
-use eqc_sums::{Limits, Sums, copy_with_chains, has_adders, words_of};
 use eqc_sweep::{Effort, Sweep};
 use std::alloc::{AllocError, Global};
 

@@ -21,11 +21,11 @@ use crate::adding::{Literals, MOST_FAILED, MOST_NODES, limits_in, literals_of};
 use crate::entering::{CHARACTERS, entered};
 use crate::inside::{Inside, Owned, first_of_literal};
 use crate::rounds::{entry, open_literals};
+use eqc_adders::{Limits, Lookalikes, are_shown_equal, find_lookalikes, has_adders, is_made_alike};
 use eqc_build::Steps;
 use eqc_compare::{Alike, Progress, Stage};
 use eqc_gates::needed_within;
 use eqc_graph::{Graph, Node, negated, node_of};
-use eqc_sums::{Limits, Lookalikes, are_shown_equal, find_lookalikes, has_adders, is_made_alike};
 use eqc_sweep::{Effort, Sweep, below};
 use std::alloc::{AllocError, Global};
 

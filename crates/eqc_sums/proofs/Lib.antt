@@ -4,5 +4,3 @@ pub mod StepLemmas
 pub mod WordLemmas
 pub mod KeepLemmas
 pub mod PolynomialLemmas
-pub mod ChainLemmas
-pub mod ShownLaws

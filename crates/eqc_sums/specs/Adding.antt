@@ -5,7 +5,6 @@ use Rattle.std.specs.List.{All}
 use Rattle.eqc_graph.specs.declared.node.Node.{Node}
 use Rattle.eqc_graph.specs.Graph.{literal_value, IsWithin}
 use Rattle.eqc_sweep.specs.Finding.{AreEqual}
-use Rattle.eqc_sweep.specs.Copying.{IsCopyOf}
 use Rattle.eqc_sums.specs.declared.form.Form.{Form}
 use Rattle.eqc_sums.specs.Forms.{bit, form_value, IsOver}
 
@@ -50,7 +49,3 @@ pub record IsFormOf (nodes : List Node) (f : Form) (ps qs : List ℕ) : Type 0 w
 pub record AreEqualWords (nodes : List Node) (ps qs : List ℕ) : Type 0 where
   pub same : length qs ≡ length ps
   pub equal : (k : ℕ) → k < length ps → AreEqual nodes (slice_index ps k) (slice_index qs k)
-
--- literals of the new graph have the values of the first ones of these of the old one
-pub record AreCopiesOf (old new : List Node) (ls cs : List ℕ) : Type 0 where
-  pub each : (k : ℕ) → k < length cs → IsCopyOf old new (slice_index ls k) (slice_index cs k)

@@ -1,3 +1,2 @@
 pub mod Forms
 pub mod Adding
-pub mod Chains

@@ -11,8 +11,10 @@ use std::alloc::{AllocError, Global};
 /// A constant, and a coefficient for each of the first nodes of a graph, modulo 2^128.
 #[derive(Drop)]
 pub struct Form {
-    pub(crate) constant: u128,
-    pub(crate) coefficients: Vec<u128>,
+    /// What it comes to where no node is true.
+    pub constant: u128,
+    /// Those of the first nodes, in their order: what adds a word up by columns reads them all.
+    pub coefficients: Vec<u128>,
 }
 
 impl Form {

@@ -9,7 +9,7 @@ use crate::form::Form;
 use crate::polynomial::{expansion, product_expansion};
 use crate::steps::{adder, alias, parity, polarity, product, split, split_product};
 use crate::term::Term;
-use crate::words::{MOST, are_within, difference};
+use crate::words::{MOST_LITERALS, are_within, difference};
 use eqc_graph::node_of;
 use eqc_sweep::{Comparison, Effort, Sweep};
 use std::alloc::{AllocError, Global};
@@ -52,8 +52,9 @@ impl Reduction {
         self.sweep
     }
 
-    /// From now on new nodes are asked about with this effort.
-    pub(crate) fn ask_again(&mut self, effort: Effort) -> Result<(), AllocError>
+    /// From now on new nodes are asked about with this effort: who looks for adders, or adds a word
+    /// up, has limits for these questions. Fails where memory is refused.
+    pub fn ask_again(&mut self, effort: Effort) -> Result<(), AllocError>
         ensures sweep { self.new.sweep ≡ self.old.sweep }
         ensures form { self.new.form ≡ self.old.form }
     {
@@ -277,7 +278,7 @@ impl Reduction {
         ensures sweep { self.new.sweep ≡ self.old.sweep }
         ensures begun { IfOk result (λ is. IsTrue is → IsFormOf self.new.sweep self.new.form ps.now qs.now) }
     {
-        if ps.len() != qs.len() || ps.len() == 0 || ps.len() > MOST {
+        if ps.len() != qs.len() || ps.len() == 0 || ps.len() > MOST_LITERALS {
             return Ok(false);
         }
         if !are_within(self.sweep.graph(), ps) || !are_within(self.sweep.graph(), qs) {

@@ -10,8 +10,8 @@ use crate::term::Term;
 use eqc_graph::{Graph, node_of};
 use std::alloc::{AllocError, Global};
 
-/// How many literals a word has at most.
-pub(crate) const MOST: usize = 128;
+/// How many literals a word has at most: what looks for words ends them there.
+pub const MOST_LITERALS: usize = 128;
 
 /// Whether literals are of the nodes of a graph.
 pub(crate) fn are_within(graph: &Graph, literals: &[u32]) -> bool
@@ -35,7 +35,7 @@ pub(crate) fn difference(alloc: Global, ps: &[u32], qs: &[u32]) -> Result<Vec<Te
     ensures sum { IfOk result (λ ts. (v : ℕ → Bool) → (terms_sum v ts.items + 2 ^ (128 - length ps.now) * number v qs.now) % 2 ^ 128 ≡ (2 ^ (128 - length ps.now) * number v ps.now) % 2 ^ 128) }
 {
     let mut terms = Vec::new(alloc);
-    let mut factor = 1u128 << (MOST - ps.len());
+    let mut factor = 1u128 << (MOST_LITERALS - ps.len());
     for k in 0..ps.len() {
         terms.push(Term {
             literal: ps[k],

@@ -2,8 +2,8 @@
 
 use crate::ends::same;
 use crate::multipliers::{Architecture, Factors, and, product, xor};
+use eqc_adders::{Limits, Sums, copy_with_chains, has_adders, words_of};
 use eqc_graph::negated;
-use eqc_sums::{Limits, Sums, copy_with_chains, has_adders, words_of};
 use eqc_sweep::{Effort, Sweep, copied};
 use std::alloc::{AllocError, Global};
 

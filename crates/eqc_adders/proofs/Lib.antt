@@ -1,0 +1,2 @@
+pub mod ChainLemmas
+pub mod ShownLaws

@@ -1,0 +1,56 @@
+//! Steps as values: what is chosen by one that is believed in nothing, and done.
+ghost use Rattle.eqc_sums.specs.Forms.{Keeps};
+
+use eqc_sums::Reduction;
+use std::alloc::AllocError;
+
+/// A step of a reduction.
+#[derive(Clone, Copy)]
+pub(crate) enum Move {
+    /// An adder of three literals, so many times.
+    Adder(u32, u32, u32, u128),
+    /// A parity of two.
+    Parity(u32, u32),
+    /// A literal that is split by another one, so many times.
+    Split(u32, u32, u128),
+    /// The carry of a complement of the first literal, so many times.
+    Polarity(u32, u32, u32, u128),
+    /// An adder times the first literal, so many times.
+    Product(u32, u32, u32, u32, u128),
+    /// A literal that is split by another one, times the first one.
+    SplitProduct(u32, u32, u32, u128),
+    /// A literal's polynomial, down to so many gates below it, so many times.
+    Expand(u32, u32, u128),
+    /// A literal times the polynomial of another one, in place of their conjunction, so many times.
+    ExpandProduct(u32, u32, u32, u128),
+    /// The second literal in place of the first, so many times.
+    Unify(u32, u32, u128),
+}
+
+#[tactic(auto, using(eqc_sums::proofs::KeepLemmas::keeps_itself))]
+/// Does a step. For a question there are so many conflicts, of which those are taken away that
+/// there were.
+pub(crate) fn apply(
+    reduction: &mut Reduction,
+    step: Move,
+    conflicts: &mut u64,
+) -> Result<(), AllocError>
+    ensures { Keeps reduction.old.sweep reduction.new.sweep reduction.old.form reduction.new.form }
+{
+    match step {
+        Move::Adder(x, y, z, factor) => reduction.adder(x, y, z, factor),
+        Move::Parity(x, y) => reduction.parity(x, y),
+        Move::Split(x, y, factor) => reduction.split(x, y, factor),
+        Move::Polarity(x, y, z, factor) => reduction.polarity(x, y, z, factor),
+        Move::Product(by, x, y, z, factor) => reduction.product(by, x, y, z, factor),
+        Move::SplitProduct(by, x, y, factor) => reduction.split_product(by, x, y, factor),
+        Move::Expand(literal, depth, factor) => reduction.expand(literal, depth, factor),
+        Move::ExpandProduct(by, literal, depth, factor) => reduction.expand_product(
+            by, literal, depth, factor,
+        ),
+        Move::Unify(x, y, factor) => {
+            let _ = reduction.unify(x, y, factor, conflicts)?;
+            Ok(())
+        }
+    }
+}

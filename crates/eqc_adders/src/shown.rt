@@ -1,0 +1,128 @@
+//! Words of a graph that are shown equal in a copy of what they are made of.
+ghost use Rattle.std.specs.Prelude.{◌≡◌, ℕ, List, length, IfOk, IsTrue};
+ghost use Rattle.eqc_graph.specs.declared.node.Node.{Node};
+ghost use Rattle.eqc_sweep.specs.Copying.{AreCopies};
+ghost use Rattle.eqc_sums.specs.Adding.{AreEqualWords};
+ghost use Rattle.eqc_adders.specs.Copies.{AreCopiesOf};
+
+use crate::chains::copy_with_chains;
+use crate::sums::{Limits, Sums};
+use eqc_graph::Graph;
+use eqc_sweep::{Effort, Sweep, copied};
+use std::alloc::{AllocError, Global};
+
+/// The most conflicts of a question about a node that enters a copy.
+pub(crate) const CHEAP: u64 = 30;
+
+/// Enters so many inputs that nothing depends on: those behind them have other patterns then. Fails
+/// where memory is refused.
+fn draw(sweep: &mut Sweep, count: u32) -> Result<(), AllocError> {
+    for k in 0..count {
+        sweep.input(u32::MAX - k)?;
+    }
+    Ok(())
+}
+
+#[tactic(auto, using(crate::proofs::ShownLaws::copies_begin))]
+/// The copies of literals, up to the first one that has none. Fails where memory is refused.
+pub(crate) fn copies(
+    alloc: Global,
+    table: &[Option<u32>],
+    literals: &[u32],
+) -> Result<Vec<u32>, AllocError>
+    ensures { (old new : List Node) → AreCopies old new table.now → IfOk result (λ cs. AreCopiesOf old new literals.now cs.items) }
+{
+    let mut all = Vec::with_capacity(alloc, literals.len())?;
+    for k in 0..literals.len() {
+        let Some(copy) = copied(table, literals[k]) else {
+            break;
+        };
+        all.push(copy)?;
+    }
+    Ok(all)
+}
+
+/// Copies what literals of both words or netlists are made of, as `copy_with_chains` does, into a
+/// graph in which nothing is asked from then on, and answers the copies of nodes. Fails where
+/// memory is refused.
+pub(crate) fn copy_both(
+    alloc: Global,
+    graph: &Graph,
+    firsts: &[u32],
+    seconds: &[u32],
+    sweep: &mut Sweep,
+    is_shortened: bool,
+) -> Result<Vec<Option<u32>>, AllocError>
+    ensures { IfOk result (λ table. AreCopies graph.now sweep.new table.items) }
+{
+    let mut asked = Vec::new(alloc);
+    asked.extend_from_slice(firsts)?;
+    asked.extend_from_slice(seconds)?;
+    let table = copy_with_chains(alloc, graph, &asked, sweep, is_shortened);
+    sweep.ask_no_more();
+    table
+}
+
+/// Copies what two words are made of, the second one first in each other turn, and answers the
+/// copies of nodes.
+fn copy_words(
+    alloc: Global,
+    graph: &Graph,
+    firsts: &[u32],
+    seconds: &[u32],
+    sweep: &mut Sweep,
+    turn: u32,
+) -> Result<Vec<Option<u32>>, AllocError>
+    ensures { IfOk result (λ table. AreCopies graph.now sweep.new table.items) }
+{
+    let is_other = turn % 2 == 1;
+    draw(sweep, turn)?;
+    if is_other {
+        copy_with_chains(alloc, graph, seconds, sweep, is_other)?;
+    }
+    copy_both(alloc, graph, firsts, seconds, sweep, is_other)
+}
+
+/// Whether two words are shown equal in a graph that has copies of nodes. It stands apart for its
+/// proof's sake: where a graph is let go in each exit that takes many times longer.
+fn show_copies(
+    alloc: Global,
+    table: &[Option<u32>],
+    firsts: &[u32],
+    seconds: &[u32],
+    sums: &mut Sums,
+    limits: Limits,
+) -> Result<bool, AllocError>
+    ensures { (old : List Node) → AreCopies old sums.old.reduction.sweep table.now → IfOk result (λ is. IsTrue is → AreEqualWords old firsts.now seconds.now) }
+{
+    let ps = copies(alloc, table, firsts)?;
+    let qs = copies(alloc, table, seconds)?;
+    if ps.len() != firsts.len() || qs.len() != seconds.len() {
+        return Ok(false);
+    }
+    let steps = limits.steps.min(sums.sweep().graph().len());
+    let limits = Limits { steps, ..limits };
+    sums.find_adders(limits)?;
+    sums.find_carries()?;
+    sums.show(&ps, &qs, limits)
+}
+
+/// Whether two words of as many literals of a graph, the lowest first, are shown equal within these
+/// limits, in a copy of what they are made of. In each of the turns, which are counted from 0,
+/// other patterns are simulated, and the second word enters first in each other one. Steps are no
+/// more than there are nodes. Fails where memory is refused.
+pub fn are_shown_equal(
+    alloc: Global,
+    graph: &Graph,
+    firsts: &[u32],
+    seconds: &[u32],
+    limits: Limits,
+    turn: u32,
+) -> Result<bool, AllocError>
+    ensures { IfOk result (λ is. IsTrue is → AreEqualWords graph.now firsts.now seconds.now) }
+{
+    let mut sweep = Sweep::new(alloc, Effort::of(CHEAP, limits.work))?;
+    let table = copy_words(alloc, graph, firsts, seconds, &mut sweep, turn)?;
+    let mut sums = Sums::new(alloc, sweep);
+    show_copies(alloc, &table, firsts, seconds, &mut sums, limits)
+}
