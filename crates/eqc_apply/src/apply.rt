@@ -157,7 +157,7 @@ impl Applier {
     }
 
     /// Puts a task for the operands, and answers their low cofactors. The high ones may be offered
-    /// to other workers. The error is 72 alone.
+    /// to other workers. The error is `Memory` alone.
     fn descend(&mut self, op: Op, f: u32, g: u32) -> Result<(u32, u32), Stop>
         requires f { IsHeld self.old.names.worker.known.core f }
         requires g { IsHeld self.old.names.worker.known.core g }

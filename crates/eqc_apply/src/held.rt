@@ -191,7 +191,7 @@ impl Held {
     }
 
     /// The cofactors of a name: what it is where the variable is 0, and where it is 1. Both are
-    /// held then. The error is 72 alone.
+    /// held then. The error is `Memory` alone.
     pub(crate) fn cofactors(&mut self, variable: u16, x: u32) -> Result<(u32, u32), Stop>
         requires held { IsHeld self.old.worker.known.core x }
         requires below { variable < self.old.variables }
@@ -215,7 +215,7 @@ impl Held {
     }
 
     /// The node of a variable over two names, which is held then. The call may wait. The errors are
-    /// 71, where every slot was seen taken, and 72.
+    /// `NodeLimit`, where every slot was seen taken, and `Memory`.
     pub(crate) fn node<R: Wait>(
         &mut self,
         rt: &R,
@@ -248,7 +248,8 @@ impl Held {
         }
     }
 
-    /// One reference more to a name that is held. The error is 73 alone, at 2^32 - 1 of them.
+    /// One reference more to a name that is held. The error is `References` alone, at 2^32 - 1 of
+    /// them.
     pub(crate) fn refer(&mut self, x: u32) -> Result<Ref, Stop>
         requires { IsHeld self.old.worker.known.core x }
         ensures ok { IfOk result (λ r. Gains (holding_in self.old) (holding_in self.new) (entry_of r) (says (entry_in self.old.worker.known x))) }

@@ -216,8 +216,8 @@ fn compare_in_turn<R, D: Diagrams<R>, G: Gate<R>>(
 /// comparison before it begins. Where the store is full and `again` is set, an output is compared
 /// once more without what was built for later ones.
 ///
-/// The errors are those of the diagrams, 71, 72 and 73, and 72 where memory is refused. All
-/// references are given back, whatever the answer.
+/// The errors are those of the diagrams, and `Memory` where memory is refused. All references are
+/// given back, whatever the answer.
 pub fn compare_known<R, D: Diagrams<R>, G: Gate<R>>(
     alloc: Global,
     rt: &R,
@@ -299,8 +299,8 @@ fn compare_once<R, D: Diagrams<R>>(
 /// `d` has at least as many variables as the pair has inputs, and `output` is below the number of
 /// outputs. The diagram of each signal that the output or the assumption's output depends on is
 /// built, and of no other: beside what the diagrams take, time and memory are in proportion to
-/// those signals and their drivers. The errors are those of the diagrams, 71, 72 and 73, and 72
-/// where memory is refused. All references are given back, whatever the answer.
+/// those signals and their drivers. The errors are those of the diagrams, and `Memory` where memory
+/// is refused. All references are given back, whatever the answer.
 pub fn compare_output<R, D: Diagrams<R>>(
     rt: &R,
     alloc: Global,
