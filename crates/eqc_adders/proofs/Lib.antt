@@ -1,2 +1,3 @@
 pub mod ChainLemmas
 pub mod ShownLaws
+pub mod CasesLaws

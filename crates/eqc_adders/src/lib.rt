@@ -16,13 +16,17 @@
 //!   (`specs/Chains.antt`), and `leaves`, what is left of exclusive ors in which something cancels
 //!   out
 //! - `shown`, words shown equal in a copy of what they are made of (`specs/Copies.antt`)
+//! - `cases`, words shown equal for each value of the inputs that choose what a design does, and
+//!   `cofactor`, what is left of a graph where an input has a value (`specs/Cases.antt`)
 //! - `inner`, words that look alike, by the `frames` in which their nodes count
 #![tactic(auto)]
 
 mod adders;
+mod cases;
 mod chains;
 mod choice;
 mod chosen;
+mod cofactor;
 mod column;
 mod columns;
 mod frames;
@@ -35,6 +39,7 @@ mod shown;
 mod sums;
 mod support;
 
+pub use cases::are_equal_in_cases;
 pub use chains::copy_with_chains;
 pub use inner::{Lookalikes, find_lookalikes, is_made_alike};
 pub use names::words_of;

@@ -7,7 +7,7 @@
 //! | 2 | diagrams on one thread; in the larger room too where there are very many inputs and many outputs began | `first_diagrams` | all outputs, where they fit |
 //! | 3 | short rounds of sweeping, and a short search that refutes after each | `Inside::of`, `sweep_more`, `ask_while_found` | outputs that are found equal |
 //! | 4 | a short search, where simulation saw an output differ | `by_search` | all outputs, or all up to the first that differs |
-//! | 5 | words of outputs that add up the same, and a short look for words inside that do | `by_sums`, `by_inner_sums` | outputs whose words are shown equal, and the same as 3 |
+//! | 5 | words of outputs that add up the same, a short look for words inside that do, and for outputs that do in each case of what inputs choose | `by_sums`, `by_inner_sums` | outputs whose words are shown equal, and the same as 3 |
 //! | 6 | 2 in a larger room | `in_room` | the outputs left, where they fit |
 //! | 7 | rounds of sweeping that take no longer than 8, where there are few inputs | `sweep_more` | the same as 3 |
 //! | 8 | diagrams by one worker who takes dead nodes back, where there are few inputs or very many | `in_room` | the outputs left, where they fit |
@@ -38,7 +38,7 @@ use crate::workers::{
     goes_on_alone, has_large_room, has_many_inputs, has_some_inputs, is_full,
 };
 use eqc_compare::{Alike, Progress, Stage, alike_or_nothing, known_outcome};
-use eqc_inside::{Conflicts, Inside, Patience, Rounds, Searched, Span, Terms};
+use eqc_inside::{Conflicts, Inside, Look, Rounds, Searched, Span, Terms};
 use eqc_report::{Options, Report, Undecided, found_report, note_seen};
 use eqc_tree::Stop;
 use std::sync::Wait;
@@ -393,15 +393,15 @@ fn by_sums<R: Threads + Wait + Sync, P: Progress<R> + Sync>(
     of_known(comparison, alike)
 }
 
-/// The report where words inside the netlists are shown equal by what they add up to, and what
-/// depends on them is swept anew in a round, with one of two signals in place of both. The outputs
-/// found equal so become known.
+/// The report where words that are looked for, inside the netlists or of outputs in cases, are shown
+/// equal by what they add up to, and what depends on them is swept anew in a round, with one of two
+/// signals in place of both. The outputs found equal so become known.
 fn by_inner_sums<R: Threads + Wait + Sync, P: Progress<R> + Sync>(
     comparison: &Comparison<'_, R, P>,
     inside: &mut Inside<'_>,
     alike: &mut Alike,
     rounds: &Rounds,
-    patience: Patience,
+    look: Look,
 ) -> Result<Report, Stop>
     requires inside { inside.old ≡ comparison.now.pair.now }
     requires known { IsKnown comparison.now.pair.now alike.old }
@@ -413,12 +413,10 @@ fn by_inner_sums<R: Threads + Wait + Sync, P: Progress<R> + Sync>(
     let Comparison {
         rt,
         alloc,
-        options,
         watch,
         ..
     } = *comparison;
-    let conflicts = u64::from(options.conflicts);
-    let shown = inside.add_up_inside(rt, alloc, alike, conflicts, patience, watch);
+    let shown = inside.add_up_inside(rt, alloc, alike, look, watch);
     if !matches!(shown, Ok(true)) {
         return Err(Stop::NodeLimit);
     }
@@ -515,8 +513,8 @@ fn by_longer_searches<R: Threads + Wait + Sync, P: Progress<R> + Sync>(
 }
 
 /// The report over what sweeping finds equal, which becomes known: by short rounds, by words that
-/// add up the same, in a larger room, by one worker, by long rounds, by words inside that add up
-/// the same, and by longer searches.
+/// add up the same, also inside or in cases, in a larger room, by one worker, by long rounds, by
+/// words inside once more, and by longer searches.
 fn by_sweeping<R: Threads + Wait + Sync, P: Progress<R> + Sync>(
     comparison: &Comparison<'_, R, P>,
     inside: &mut Inside<'_>,
@@ -533,6 +531,7 @@ fn by_sweeping<R: Threads + Wait + Sync, P: Progress<R> + Sync>(
     ensures seen { IsLeftOf comparison.now.pair.now left.old → IsLeftOf comparison.now.pair.now left.new }
     ensures told { KeepsTold left.old left.new }
 {
+    let conflicts = u64::from(comparison.options.conflicts);
     match by_short_rounds(comparison, inside, alike, rounds, left) {
         Err(Stop::NodeLimit) => {}
         report => return report,
@@ -541,7 +540,11 @@ fn by_sweeping<R: Threads + Wait + Sync, P: Progress<R> + Sync>(
         Err(Stop::NodeLimit) => {}
         report => return report,
     }
-    match by_inner_sums(comparison, inside, alike, rounds, Patience::Little) {
+    match by_inner_sums(comparison, inside, alike, rounds, Look::short(conflicts)) {
+        Err(Stop::NodeLimit) => {}
+        report => return report,
+    }
+    match by_inner_sums(comparison, inside, alike, rounds, Look::in_cases(conflicts)) {
         Err(Stop::NodeLimit) => {}
         report => return report,
     }
@@ -566,7 +569,7 @@ fn by_sweeping<R: Threads + Wait + Sync, P: Progress<R> + Sync>(
             report => return report,
         }
     }
-    match by_inner_sums(comparison, inside, alike, rounds, Patience::Much) {
+    match by_inner_sums(comparison, inside, alike, rounds, Look::long(conflicts)) {
         Err(Stop::NodeLimit) => {}
         report => return report,
     }

@@ -438,6 +438,14 @@ fn add_open<R, P: Progress<R>>(
     add_words(rt, task, &marks, alike, watch)
 }
 
+/// Which words of outputs are meant.
+#[derive(Clone, Copy, PartialEq)]
+pub(crate) enum Meant {
+    /// Those of which half of what is open looks like bits of a sum at least.
+    Sums,
+    All,
+}
+
 impl<'a> Inside<'a> {
     /// Whether the signal of a literal is an exclusive or.
     fn is_sum(&self, literal: u32) -> bool {
@@ -457,13 +465,14 @@ impl<'a> Inside<'a> {
 
     /// The part of a word that is to be shown equal: from its lowest output to its highest one that
     /// is open, below one that is seen to differ. Outputs below that are known to be equal are
-    /// needed too, since carries come from there. Where less than half of the open ones look like
-    /// bits of a sum it is empty. Fails where memory is refused.
+    /// needed too, since carries come from there. It is empty where sums are meant and less than
+    /// half of the open ones look like bits of a sum. Fails where memory is refused.
     fn open_part(
         &mut self,
         alloc: Global,
         word: &[usize],
         marks: &[bool],
+        meant: Meant,
     ) -> Result<Vec<usize>, AllocError>
         requires outputs { All (λ o. o < length self.old.first.outputs) word.now }
         requires equal { AreEqual self.old marks.now }
@@ -486,13 +495,19 @@ impl<'a> Inside<'a> {
                 sums = sums.saturating_add(u32::from(self.are_sums(output)));
             }
         }
-        part.truncate(if sums < open / 2 { 0 } else { end });
+        let is_left = meant == Meant::Sums && sums < open / 2;
+        part.truncate(if is_left { 0 } else { end });
         Ok(part)
     }
 
     /// The parts of words of outputs that are to be shown equal, by their names. Fails where memory
     /// is refused.
-    fn open_words(&mut self, alloc: Global, marks: &[bool]) -> Result<Vec<Vec<usize>>, AllocError>
+    pub(crate) fn open_words(
+        &mut self,
+        alloc: Global,
+        marks: &[bool],
+        meant: Meant,
+    ) -> Result<Vec<Vec<usize>>, AllocError>
         requires equal { AreEqual self.old marks.now }
         ensures pair { self.new ≡ self.old }
         ensures outputs { IfOk result (λ words. All (λ w. All (λ o. o < length self.old.first.outputs) w.items) words.items) }
@@ -501,7 +516,7 @@ impl<'a> Inside<'a> {
         let words = words_of(alloc, &names)?;
         let mut open = Vec::new(alloc);
         for k in 0..words.len() {
-            let part = self.open_part(alloc, &words[k], marks)?;
+            let part = self.open_part(alloc, &words[k], marks, meant)?;
             if part.len() > 0 {
                 open.push(part)?;
             }
@@ -523,7 +538,7 @@ impl<'a> Inside<'a> {
         ensures known { IsKnown self.new alike.new }
         ensures kept { KeepsMarks self.old alike.old.equal.items alike.new.equal.items }
     {
-        let words = self.open_words(alloc, &alike.equal)?;
+        let words = self.open_words(alloc, &alike.equal, Meant::Sums)?;
         if words.is_empty() {
             return Ok(());
         }
@@ -545,7 +560,7 @@ impl<'a> Inside<'a> {
         if self.sweep.graph().len() > MOST_NODES {
             return Ok(false);
         }
-        let words = self.open_words(alloc, marks)?;
+        let words = self.open_words(alloc, marks, Meant::Sums)?;
         Ok(!words.is_empty() && has_adders(alloc, &self.sweep)?)
     }
 

@@ -4,7 +4,8 @@
 //! What the outputs are made of enters a graph in which nothing is asked. There signals of both
 //! netlists that look alike make words, by the columns of the adders whose sums they are
 //! (`find_lookalikes`). Where two words are shown equal, in a copy of what they are made of, each
-//! of the second one's signals has that of the first one chosen in its place.
+//! of the second one's signals has that of the first one chosen in its place. So it is with words
+//! of outputs that are shown equal for each value of the few inputs that choose what a design does.
 ghost use Rattle.std.specs.Prelude.{◌≡◌, ℕ, ◌<◌, Bool, List, length, IfOk, IfSome, IsTrue};
 ghost use Rattle.std.specs.List.{All};
 ghost use Rattle.eqc_graph.specs.declared.node.Node.{Node};
@@ -13,15 +14,19 @@ ghost use Rattle.eqc_sweep.specs.Sweeping.{HasValue};
 ghost use Rattle.eqc_sweep.specs.Finding.{AreEqual};
 ghost use Rattle.eqc_sums.specs.Adding.{AreEqualWords};
 ghost use Rattle.eqc_pair.specs.PairOf.{PairOf};
+ghost use Rattle.eqc_build.specs.Steps.{AreSteps};
 ghost use Rattle.eqc_gates.specs.Entering.{AreClosed, AreLiterals};
 ghost use Rattle.eqc_compare.specs.Alike.{AreEqual as AreEqualOutputs, IsKnown};
 ghost use Rattle.eqc_inside.specs.Inside.{IsInside, TellEqual};
 
-use crate::adding::{Literals, MOST_FAILED, MOST_NODES, limits_in, literals_of};
+use crate::adding::{Literals, MOST_FAILED, MOST_NODES, Meant, limits_in, literals_of};
 use crate::entering::{CHARACTERS, entered};
 use crate::inside::{Inside, Owned, first_of_literal};
 use crate::rounds::{entry, open_literals};
-use eqc_adders::{Limits, Lookalikes, are_shown_equal, find_lookalikes, has_adders, is_made_alike};
+use eqc_adders::{
+    Limits, Lookalikes, are_equal_in_cases, are_shown_equal, find_lookalikes, has_adders,
+    is_made_alike,
+};
 use eqc_build::Steps;
 use eqc_compare::{Alike, Progress, Stage};
 use eqc_gates::needed_within;
@@ -94,80 +99,123 @@ fn note_word(
     }
 }
 
-/// Whether two words are shown equal in one of so many turns. Fails where memory is refused.
-fn is_shown(
-    alloc: Global,
-    graph: &Graph,
-    word: &Lookalikes,
-    limits: Limits,
-    turns: u32,
-) -> Result<bool, AllocError>
-    ensures { IfOk result (λ is. IsTrue is → AreEqualWords graph.now word.now.firsts.items word.now.seconds.items) }
-{
-    'turns: for turn in 0..turns {
-        if are_shown_equal(alloc, graph, &word.firsts, &word.seconds, limits, turn)? {
-            return Ok(true);
+/// Which words are looked for.
+#[derive(Clone, Copy, PartialEq, Eq, Debug)]
+enum Kind {
+    /// Words inside, until the first one isn't shown equal at once, in a graph that isn't large: a
+    /// run that has none takes little longer.
+    Short,
+    /// Words inside, until several aren't, each in several turns.
+    Long,
+    /// Words of outputs, for each value of the inputs that choose what a design does, until the
+    /// first one isn't, in a graph that isn't large.
+    Cases,
+}
+
+/// Which words are looked for, and with how many conflicts that a run may have.
+#[derive(Clone, Copy, PartialEq, Eq, Debug)]
+pub struct Look {
+    kind: Kind,
+    conflicts: u64,
+}
+
+impl Look {
+    /// A look for words inside that takes a run which has none little longer.
+    pub fn short(conflicts: u64) -> Look {
+        Look {
+            kind: Kind::Short,
+            conflicts,
         }
     }
-    Ok(false)
-}
 
-/// How long it is looked for words.
-#[derive(Clone, Copy, PartialEq, Eq, Debug)]
-pub enum Patience {
-    /// Until the first one isn't shown equal at once, in a graph that isn't large: a run that has
-    /// none takes little longer.
-    Little,
-    /// Until several aren't, each in several turns.
-    Much,
-}
+    /// A look for words inside in larger graphs too, with several turns for each word.
+    pub fn long(conflicts: u64) -> Look {
+        Look {
+            kind: Kind::Long,
+            conflicts,
+        }
+    }
 
-impl Patience {
+    /// A look for words of outputs that are equal for each value of the inputs that choose what a
+    /// design does.
+    pub fn in_cases(conflicts: u64) -> Look {
+        Look {
+            kind: Kind::Cases,
+            conflicts,
+        }
+    }
+
+    /// How often it is looked for words, each time over those that were shown equal before.
+    fn count(self) -> u32 {
+        match self.kind {
+            Kind::Short | Kind::Long => LOOKS,
+            Kind::Cases => 1,
+        }
+    }
+
     fn turns(self) -> u32 {
-        match self {
-            Patience::Little => 1,
-            Patience::Much => TURNS,
+        match self.kind {
+            Kind::Short | Kind::Cases => 1,
+            Kind::Long => TURNS,
         }
     }
 
     fn most_failed(self) -> u32 {
-        match self {
-            Patience::Little => 1,
-            Patience::Much => MOST_FAILED,
+        match self.kind {
+            Kind::Short | Kind::Cases => 1,
+            Kind::Long => MOST_FAILED,
         }
     }
 
     fn most_nodes(self) -> u32 {
-        match self {
-            Patience::Little => FEW_NODES,
-            Patience::Much => MOST_NODES,
+        match self.kind {
+            Kind::Short | Kind::Cases => FEW_NODES,
+            Kind::Long => MOST_NODES,
         }
     }
 
     /// The limits for words in a graph of so many nodes.
-    fn limits(self, nodes: u32, conflicts: u64) -> Limits {
-        let limits = limits_in(nodes, conflicts);
-        match self {
-            Patience::Little => Limits {
+    fn limits(self, nodes: u32) -> Limits {
+        let limits = limits_in(nodes, self.conflicts);
+        match self.kind {
+            Kind::Short => Limits {
                 steps: limits.steps / PART,
                 terms: limits.terms / PART as usize,
                 conflicts: limits.conflicts / u64::from(PART),
                 work: limits.work / u64::from(PART),
                 ..limits
             },
-            Patience::Much => limits,
+            Kind::Long | Kind::Cases => limits,
         }
     }
 }
 
-/// In what it is looked for words: in what these outputs of a pair are made of.
+/// In what it is looked for words: in what these outputs of a pair are made of, of which the open
+/// ones make these words.
 #[derive(Clone, Copy)]
-struct Look<'a> {
+struct Task<'a> {
     alloc: Global,
     steps: &'a Steps<'a>,
     outputs: &'a [usize],
-    conflicts: u64,
-    patience: Patience,
+    words: &'a [Vec<usize>],
+    look: Look,
+}
+
+/// Whether two words are shown equal: in one of several turns, or in each case. Fails where memory
+/// is refused.
+fn is_shown(task: &Task<'_>, graph: &Graph, word: &Lookalikes) -> Result<bool, AllocError>
+    ensures { IfOk result (λ is. IsTrue is → AreEqualWords graph.now word.now.firsts.items word.now.seconds.items) }
+{
+    let limits = task.look.limits(graph.len());
+    if task.look.kind == Kind::Cases {
+        return are_equal_in_cases(task.alloc, graph, &word.firsts, &word.seconds, limits);
+    }
+    'turns: for turn in 0..task.look.turns() {
+        if are_shown_equal(task.alloc, graph, &word.firsts, &word.seconds, limits, turn)? {
+            return Ok(true);
+        }
+    }
+    Ok(false)
 }
 
 /// What stands for the literals of steps since words that look alike are shown equal, one by one,
@@ -175,7 +223,7 @@ struct Look<'a> {
 /// is refused.
 fn shown_of<R, P: Progress<R>>(
     rt: &R,
-    look: &Look<'_>,
+    task: &Task<'_>,
     graph: &Graph,
     literals: &[Option<u32>],
     words: &[Lookalikes],
@@ -183,17 +231,15 @@ fn shown_of<R, P: Progress<R>>(
 ) -> Result<Option<Vec<Option<u32>>>, AllocError>
     ensures { (p : PairOf) → AreLiterals p graph.now literals.now → IfOk result (λ found. IfSome found (λ shown. TellEqual p shown.items)) }
 {
-    let limits = look.patience.limits(graph.len(), look.conflicts);
-    let turns = look.patience.turns();
-    let mut shown = vec![in look.alloc; None; literals.len()]?;
+    let mut shown = vec![in task.alloc; None; literals.len()]?;
     let mut some = false;
     let mut failed = 0u32;
     'words: for k in 0..words.len() {
-        if failed >= look.patience.most_failed() {
+        if failed >= task.look.most_failed() {
             break;
         }
         watch.step(rt, k, words.len());
-        if is_shown(look.alloc, graph, &words[k], limits, turns)? {
+        if is_shown(task, graph, &words[k])? {
             note_word(graph, literals, &mut shown, &words[k]);
             some = true;
         } else {
@@ -203,50 +249,83 @@ fn shown_of<R, P: Progress<R>>(
     Ok(if some { Some(shown) } else { None })
 }
 
+/// The literals of the words of outputs. Fails where memory is refused.
+fn words_of_outputs(
+    task: &Task<'_>,
+    literals: &[Option<u32>],
+) -> Result<Vec<Lookalikes>, AllocError>
+    requires lawful { AreSteps task.now.steps.now }
+    requires words { All (λ w. All (λ o. o < length task.now.steps.now.pair.first.outputs) w.items) task.now.words.now }
+{
+    let mut all = Vec::with_capacity(task.alloc, task.words.len())?;
+    for k in 0..task.words.len() {
+        let Literals { firsts, seconds } = literals_of(
+            task.alloc,
+            task.steps,
+            literals,
+            &task.words[k],
+        )?;
+        all.push(Lookalikes { firsts, seconds })?;
+    }
+    Ok(all)
+}
+
+/// The words that are tried. Fails where memory is refused.
+fn tried(
+    task: &Task<'_>,
+    graph: &Graph,
+    literals: &[Option<u32>],
+) -> Result<Vec<Lookalikes>, AllocError>
+    requires lawful { AreSteps task.now.steps.now }
+    requires outputs { All (λ o. o < length task.now.steps.now.pair.first.outputs) task.now.outputs.now }
+    requires words { All (λ w. All (λ o. o < length task.now.steps.now.pair.first.outputs) w.items) task.now.words.now }
+{
+    if task.look.kind == Kind::Cases {
+        return words_of_outputs(task, literals);
+    }
+    let limits = task.look.limits(graph.len());
+    let Literals { firsts, seconds } = literals_of(task.alloc, task.steps, literals, task.outputs)?;
+    find_lookalikes(task.alloc, graph, &firsts, &seconds, limits)
+}
+
 /// What stands for literals of steps since words of signals that the outputs depend on are shown
 /// equal, in a graph that the marked steps enter.
 fn shown_in<R, P: Progress<R>>(
     rt: &R,
-    look: &Look<'_>,
+    task: &Task<'_>,
     marks: &[bool],
     plain: &mut Sweep,
     watch: &P,
 ) -> Result<Option<Vec<Option<u32>>>, AllocError>
-    requires closed { AreClosed look.now.steps.now marks.now }
-    requires outputs { All (λ o. o < length look.now.steps.now.pair.first.outputs) look.now.outputs.now }
-    ensures { IfOk result (λ found. IfSome found (λ shown. TellEqual look.now.steps.now.pair shown.items)) }
+    requires closed { AreClosed task.now.steps.now marks.now }
+    requires outputs { All (λ o. o < length task.now.steps.now.pair.first.outputs) task.now.outputs.now }
+    requires words { All (λ w. All (λ o. o < length task.now.steps.now.pair.first.outputs) w.items) task.now.words.now }
+    ensures { IfOk result (λ found. IfSome found (λ shown. TellEqual task.now.steps.now.pair shown.items)) }
 {
     watch.stage(rt, Stage::Sweeping);
-    let literals = entered(rt, look.alloc, look.steps, marks, plain, watch)?;
-    let graph = plain.graph();
-    let limits = look.patience.limits(graph.len(), look.conflicts);
-    let Literals { firsts, seconds } = literals_of(
-        look.alloc,
-        look.steps,
-        &literals,
-        look.outputs,
-    )?;
-    let words = find_lookalikes(look.alloc, graph, &firsts, &seconds, limits)?;
+    let literals = entered(rt, task.alloc, task.steps, marks, plain, watch)?;
+    let words = tried(task, plain.graph(), &literals)?;
     watch.stage(rt, Stage::Adding);
-    shown_of(rt, look, graph, &literals, &words, watch)
+    shown_of(rt, task, plain.graph(), &literals, &words, watch)
 }
 
 /// The same in a graph that is let go in one exit, for its proof's sake.
 fn shown_below<R, P: Progress<R>>(
     rt: &R,
-    look: &Look<'_>,
+    task: &Task<'_>,
     watch: &P,
 ) -> Result<Option<Vec<Option<u32>>>, AllocError>
-    requires { All (λ o. o < length look.now.steps.now.pair.first.outputs) look.now.outputs.now }
-    ensures { IfOk result (λ found. IfSome found (λ shown. TellEqual look.now.steps.now.pair shown.items)) }
+    requires outputs { All (λ o. o < length task.now.steps.now.pair.first.outputs) task.now.outputs.now }
+    requires words { All (λ w. All (λ o. o < length task.now.steps.now.pair.first.outputs) w.items) task.now.words.now }
+    ensures { IfOk result (λ found. IfSome found (λ shown. TellEqual task.now.steps.now.pair shown.items)) }
 {
-    let count = look.steps.pair().first().outputs().len();
-    let wanted = vec![in look.alloc; true; count]?;
-    let marks = needed_within(look.alloc, look.steps, &wanted, CHARACTERS)?;
+    let count = task.steps.pair().first().outputs().len();
+    let wanted = vec![in task.alloc; true; count]?;
+    let marks = needed_within(task.alloc, task.steps, &wanted, CHARACTERS)?;
     let mut plain = Owned {
-        sweep: Sweep::new(look.alloc, Effort::none())?,
+        sweep: Sweep::new(task.alloc, Effort::none())?,
     };
-    shown_in(rt, look, &marks, &mut plain.sweep, watch)
+    shown_in(rt, task, &marks, &mut plain.sweep, watch)
 }
 
 /// All outputs of so many. Of those that are known to be equal too there may be sums whose carries
@@ -265,16 +344,11 @@ impl<'a> Inside<'a> {
     /// Whether sums inside look alike that weren't found equal and aren't made of what looks alike,
     /// in a graph that has something like adders and isn't too large. Nothing is promised of it.
     /// Fails where memory is refused.
-    fn has_lookalikes(
-        &self,
-        alloc: Global,
-        marks: &[bool],
-        patience: Patience,
-    ) -> Result<bool, AllocError>
+    fn has_lookalikes(&self, alloc: Global, marks: &[bool], look: Look) -> Result<bool, AllocError>
         requires { AreEqualOutputs self.now marks.now }
     {
         let graph = self.sweep.graph();
-        if graph.len() > patience.most_nodes() {
+        if graph.len() > look.most_nodes() {
             return Ok(false);
         }
         let open = open_literals(alloc, &self.steps, &self.literals, marks, 1)?;
@@ -293,43 +367,59 @@ impl<'a> Inside<'a> {
         Ok(found >= SOME && has_adders(alloc, &self.sweep)?)
     }
 
+    /// Whether there is something to look for: words inside, or outputs beside something like an
+    /// adder. Nothing is promised of it. Fails where memory is refused.
+    fn is_worth_a_look(&self, alloc: Global, marks: &[bool], look: Look) -> Result<bool, AllocError>
+        requires { AreEqualOutputs self.now marks.now }
+    {
+        match look.kind {
+            Kind::Cases => {
+                Ok(self.sweep.graph().len() <= look.most_nodes() && has_adders(alloc, &self.sweep)?)
+            }
+            Kind::Short | Kind::Long => self.has_lookalikes(alloc, marks, look),
+        }
+    }
+
     #[tactic(auto, using(eqc_build::proofs::StepLaws::each_choice))]
     /// Chooses signals of the first netlist in place of signals of the second one, where words to
-    /// which these belong are shown equal by what they add up to: whether some are. Words are found
-    /// by adders, of signals that look alike. Where nothing looks like that it is left at a look;
-    /// else it takes work in proportion to the conflicts, less with little patience, in up to three
-    /// looks, each of which goes on from what was shown before. The watch is told of each step that
-    /// enters, and of each word. Fails where memory is refused; what was chosen before stays then.
+    /// which these belong are shown equal by what they add up to: whether some are. Words inside
+    /// are found by adders, of signals that look alike; those of outputs, by their names, are shown
+    /// in each case of the values of a few inputs, where these choose what a design does. Where
+    /// nothing looks like that it is left at a look; else it takes work in proportion to the
+    /// conflicts, less in a short look. It is looked for words inside up to three times, each time
+    /// from what was shown before. The watch is told of each step that enters, and of each word.
+    /// Fails where memory is refused; what was chosen before stays then.
     pub fn add_up_inside<R, P: Progress<R>>(
-        &self,
+        &mut self,
         rt: &R,
         alloc: Global,
         alike: &mut Alike,
-        conflicts: u64,
-        patience: Patience,
+        look: Look,
         watch: &P,
     ) -> Result<bool, AllocError>
-        requires { IsKnown self.now alike.old }
-        ensures known { IsKnown self.now alike.new }
+        requires { IsKnown self.old alike.old }
+        ensures pair { self.new ≡ self.old }
+        ensures known { IsKnown self.new alike.new }
         ensures marks { alike.new.equal ≡ alike.old.equal }
     {
-        if !self.has_lookalikes(alloc, &alike.equal, patience)? {
+        if !self.is_worth_a_look(alloc, &alike.equal, look)? {
             return Ok(false);
         }
+        let words = self.open_words(alloc, &alike.equal, Meant::All)?;
         let pair = self.steps.pair();
         let outputs = outputs_of(alloc, pair.first().outputs().len())?;
         let mut chosen = Vec::new(alloc);
         let mut some = false;
-        'looks: for _ in 0..LOOKS {
+        'looks: for _ in 0..look.count() {
             let steps = Steps::of(alloc, pair, chosen.clone()?);
-            let look = Look {
+            let task = Task {
                 alloc,
                 steps: &steps,
                 outputs: &outputs,
-                conflicts,
-                patience,
+                words: &words,
+                look,
             };
-            let Some(shown) = shown_below(rt, &look, watch)? else {
+            let Some(shown) = shown_below(rt, &task, watch)? else {
                 break;
             };
             chosen = first_of_literal(alloc, &steps, &chosen, &shown)?;

@@ -9,7 +9,8 @@
 //! - `inside`, the graph, and the outputs and steps that are equal by it; `entering`, what enters
 //!   it
 //! - `rounds`, what is asked once more with more effort; `adding`, words of outputs that add up the
-//!   same (`specs/Adding.antt`), and `inner`, words inside that do
+//!   same (`specs/Adding.antt`), and `inner`, words inside that do, and outputs that do in each
+//!   case
 //! - `searching`, outputs that differ, with their least assignments, and `asking`, several of them
 //!   at once by several threads
 #![tactic(auto)]
@@ -23,7 +24,7 @@ mod outputs;
 mod rounds;
 mod searching;
 
-pub use inner::Patience;
+pub use inner::Look;
 pub use inside::Inside;
 pub use rounds::{Rounds, Span};
 pub use searching::{Conflicts, Searched, Terms};

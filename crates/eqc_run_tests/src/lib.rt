@@ -3,8 +3,8 @@
 //! - `runs`, options, order texts, one text and two
 //! - `assumptions`, runs in which not every assignment counts, each difference is wanted or outputs
 //!   are chosen
-//! - `compared_hierarchies`, `structures` and `inside`, what is reported of netlists; `rows`, what
-//!   compares rows of these
+//! - `compared_hierarchies`, `structures`, `inside` and `products`, what is reported of netlists;
+//!   `rows`, what compares rows of these
 //! - `watching`, what a run tells of how far it is
 //! - `teams`, threads that sweep or search; `many_workers`, very many threads that compare outputs
 #![tactic(auto)]
@@ -19,6 +19,8 @@ mod ends;
 mod inside;
 #[cfg(test)]
 mod many_workers;
+#[cfg(test)]
+mod products;
 #[cfg(test)]
 mod rows;
 #[cfg(test)]

@@ -1,9 +1,12 @@
 //! The tests of words that are shown equal by sums: multipliers of several architectures.
 //!
-//! - `multipliers`, how they are built; `words`, which of them are shown equal
+//! - `multipliers`, how they are built; `words`, which of them are shown equal, and `designs`, which
+//!   are inside a design
 //! - `ends`, what ends a test
 #![tactic(auto)]
 
+#[cfg(test)]
+mod designs;
 #[cfg(test)]
 mod ends;
 #[cfg(test)]

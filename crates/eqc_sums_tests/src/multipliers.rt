@@ -47,7 +47,7 @@ fn full(sweep: &mut Sweep, x: u32, y: u32, z: u32) -> Result<(u32, u32), AllocEr
 }
 
 /// One of two by another one.
-fn chosen(sweep: &mut Sweep, by: u32, high: u32, low: u32) -> Result<u32, AllocError> {
+pub(crate) fn chosen(sweep: &mut Sweep, by: u32, high: u32, low: u32) -> Result<u32, AllocError> {
     let first = and(sweep, by, high)?;
     let second = and(sweep, negated(by), low)?;
     or(sweep, first, second)
