@@ -83,17 +83,6 @@ makes_as entry d0 d1 (Err stop) f g same m = record {
   only = m.only;
 }
 
--- want of memory
-pub memory_makes : {X : Type 0} (entry : X → Entry) (d : Holding) (g : (ℕ → Bool) → Bool)
-    → Makes entry d d (Err Memory) g
-memory_makes entry d g = record {
-  variables = refl;
-  held = λ e. omega arith;
-  function = tt;
-  only =
-      λ is. cc;
-}
-
 -- what was held is held where a call made something
 pub makes_held : {X : Type 0} (entry : X → Entry) (d0 d1 : Holding) (result : Result X Stop) (f : (ℕ
     → Bool) → Bool) (rs : List (Bor X))

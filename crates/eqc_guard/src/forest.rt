@@ -88,8 +88,8 @@ impl Forest {
     /// variable: variable i has the slot 2 + i. The worker holds each once, and has their
     /// references in this order. It is alone and at rest, and all cells are empty.
     ///
-    /// There may be 1 to 64 workers, 1 to 16 nodes and 1 to 16 cells. The error is `AllocError`
-    /// alone.
+    /// There may be 1 to 64 workers, 1 to 16 nodes and 1 to 16 cells. The one error is
+    /// `Stop::Memory`.
     pub fn stocked(
         alloc: Global,
         workers: u32,
