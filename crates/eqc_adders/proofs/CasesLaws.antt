@@ -134,13 +134,3 @@ both_cases old one other v b ls ms first second p q = record {
     either true false = inr refl
     either false true = inr refl
     either false false = inl refl
-
--- one literal more is equal
-pub one_equal_more : (nodes : List Node) (ps qs : List ℕ) (k : ℕ)
-    → ((j : ℕ) → j < k → AreEqual nodes (get_or ps j 0) (get_or qs j 0))
-    → AreEqual nodes (get_or ps k 0) (get_or qs k 0)
-    → (j : ℕ) → j < k + 1 → AreEqual nodes (get_or ps j 0) (get_or qs j 0)
-one_equal_more nodes ps qs k so_far now j less = elim (cases_eq j k) [
-  | inl e ↦ subst (λ i. AreEqual nodes (get_or ps i 0) (get_or qs i 0)) (sym e) now
-  | inr apart ↦ so_far j (omega (arith, less, apart))
-]

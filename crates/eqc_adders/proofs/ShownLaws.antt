@@ -6,6 +6,7 @@ use Rattle.std.proofs.lemmas.List.{get_or_push, get_or_append_left, length_push}
 use Rattle.eqc_graph.specs.declared.node.Node.{Node}
 use Rattle.eqc_graph.specs.Graph.{Extends, literal_value}
 use Rattle.eqc_sweep.specs.Copying.{IsCopyOf}
+use Rattle.eqc_sweep.specs.Finding.{AreEqual}
 use Rattle.eqc_sums.specs.Adding.{AreEqualWords}
 use Rattle.eqc_adders.specs.Copies.{AreCopiesOf}
 
@@ -47,4 +48,31 @@ words_back old now new ls ms ps qs extends first second one other equal = record
         ∙ (extends.same (get_or qs k 0) a q.within
         ∙ q.value a)));
   };
+}
+
+-- one literal more is equal
+pub one_equal_more : (nodes : List Node) (ps qs : List ℕ) (k : ℕ)
+    → ((j : ℕ) → j < k → AreEqual nodes (get_or ps j 0) (get_or qs j 0))
+    → AreEqual nodes (get_or ps k 0) (get_or qs k 0)
+    → (j : ℕ) → j < k + 1 → AreEqual nodes (get_or ps j 0) (get_or qs j 0)
+one_equal_more nodes ps qs k so_far now j less = elim (cases_eq j k) [
+  | inl e ↦ subst (λ i. AreEqual nodes (get_or ps i 0) (get_or qs i 0)) (sym e) now
+  | inr apart ↦ so_far j (omega (arith, less, apart))
+]
+
+-- words that are equal to one word are
+pub equal_along : (nodes : List Node) (ps qs rs : List ℕ) → AreEqualWords nodes ps qs
+    → AreEqualWords nodes qs rs → AreEqualWords nodes ps rs
+equal_along nodes ps qs rs p q = record {
+  same = q.same ∙ p.same;
+  equal = λ k less. record {
+    value = λ a. (p.equal k less).value a ∙ (q.equal k (omega (arith, less, p.same))).value a;
+  };
+}
+
+pub equal_back : (nodes : List Node) (ps qs : List ℕ) → AreEqualWords nodes ps qs
+    → AreEqualWords nodes qs ps
+equal_back nodes ps qs p = record {
+  same = sym p.same;
+  equal = λ k less. record { value = λ a. sym ((p.equal k (omega (arith, less, p.same))).value a) };
 }

@@ -1,123 +1,20 @@
 //! Words that are equal since they are in each case: for each value of the few inputs that choose
 //! what a design does.
-ghost use Rattle.std.specs.Prelude.{◌≡◌, List, IfOk, IsTrue};
-ghost use Rattle.eqc_graph.specs.declared.node.Node.{Node};
-ghost use Rattle.eqc_sweep.specs.Copying.{AreCopies};
+ghost use Rattle.std.specs.Prelude.{◌≡◌, IfOk, IsTrue};
 ghost use Rattle.eqc_sums.specs.Adding.{AreEqualWords};
 
+use crate::anew::are_shown_anew;
 use crate::cofactor::{Control, cofactor, control_of};
-use crate::shown::{CHEAP, are_shown_equal, copies, copy_both};
+use crate::compared::{Found, Search, Words};
 use crate::sums::Limits;
-use eqc_graph::{Graph, Node, node_of};
-use eqc_sweep::{Comparison, Effort, Sweep};
+use eqc_graph::Graph;
 use std::alloc::{AllocError, Global};
-
-/// The conflicts of all questions about a case, before it is looked at what it adds up to.
-const QUESTIONS: u64 = 2_000;
-
-/// So often a case is tried by what it adds up to, each time with other patterns.
-const TURNS: u32 = 4;
 
 /// So many inputs may choose, one below the other.
 const DEPTH: u32 = 12;
 
 /// In all cases together so many nodes enter copies at most.
 const NODES: u32 = 400_000;
-
-/// Two words of a graph, and how far it is gone to show them equal.
-#[derive(Clone, Copy)]
-struct Words<'a> {
-    alloc: Global,
-    firsts: &'a [u32],
-    seconds: &'a [u32],
-    limits: Limits,
-}
-
-/// What is found of two words in a case.
-#[derive(Clone, Copy, PartialEq, Eq, Debug)]
-enum Found {
-    /// They are equal.
-    Equal,
-    /// Half of their literals look like bits of sums.
-    Sums,
-    Neither,
-}
-
-/// Whether half of the literals of both words are exclusive ors.
-fn are_sums(graph: &Graph, ps: &[u32], qs: &[u32]) -> bool {
-    let mut count = 0usize;
-    'bits: for literal in ps.iter().chain(qs) {
-        let node = node_of(*literal);
-        if node < graph.len() && matches!(graph.node(node), Node::Xor(_, _)) {
-            count = count.saturating_add(1);
-        }
-    }
-    count >= ps.len()
-}
-
-#[tactic(auto, using(crate::proofs::CasesLaws::one_equal_more))]
-/// What is found of the copies of two words, one by one, by searches. Fails where memory is
-/// refused.
-fn found_of_copies(
-    words: &Words<'_>,
-    table: &[Option<u32>],
-    sweep: &mut Sweep,
-) -> Result<Found, AllocError>
-    ensures { (old : List Node) → AreCopies old sweep.old table.now → IfOk result (λ found. found ≡ Found.Equal → AreEqualWords old words.now.firsts.now words.now.seconds.now) }
-{
-    let ps = copies(words.alloc, table, words.firsts)?;
-    let qs = copies(words.alloc, table, words.seconds)?;
-    if ps.len() != words.firsts.len() || qs.len() != words.seconds.len() || qs.len() != ps.len() {
-        return Ok(Found::Neither);
-    }
-    let nodes = sweep.graph().len();
-    let mut conflicts = QUESTIONS.min(words.limits.conflicts);
-    'bits: for k in 0..ps.len() {
-        if node_of(ps[k]) >= nodes || node_of(qs[k]) >= nodes {
-            return Ok(Found::Neither);
-        }
-        let Comparison::Equal = sweep.equal(ps[k], qs[k], &mut conflicts)? else {
-            let is_sum = are_sums(sweep.graph(), &ps, &qs);
-            return Ok(if is_sum { Found::Sums } else { Found::Neither });
-        };
-    }
-    Ok(Found::Equal)
-}
-
-/// What is found of two words in a copy of what they are made of. Fails where memory is refused.
-fn found_in_copy(words: &Words<'_>, graph: &Graph) -> Result<Found, AllocError>
-    ensures { IfOk result (λ found. found ≡ Found.Equal → AreEqualWords graph.now words.now.firsts.now words.now.seconds.now) }
-{
-    let mut sweep = Sweep::new(words.alloc, Effort::of(CHEAP, words.limits.work))?;
-    let table = copy_both(
-        words.alloc,
-        graph,
-        words.firsts,
-        words.seconds,
-        &mut sweep,
-        false,
-    )?;
-    found_of_copies(words, &table, &mut sweep)
-}
-
-/// Whether two words are shown equal by what they add up to, in one of several turns. Fails where
-/// memory is refused.
-fn are_shown_in_turns(words: &Words<'_>, graph: &Graph) -> Result<bool, AllocError>
-    ensures { IfOk result (λ is. IsTrue is → AreEqualWords graph.now words.now.firsts.now words.now.seconds.now) }
-{
-    let Words {
-        alloc,
-        firsts,
-        seconds,
-        limits,
-    } = *words;
-    'turns: for turn in 0..TURNS {
-        if are_shown_equal(alloc, graph, firsts, seconds, limits, turn)? {
-            return Ok(true);
-        }
-    }
-    Ok(false)
-}
 
 /// The input that chooses most of what the words are made of, where there is one. Fails where
 /// memory is refused.
@@ -126,6 +23,17 @@ fn control(words: &Words<'_>, graph: &Graph) -> Result<Option<Control>, AllocErr
     both.extend_from_slice(words.firsts)?;
     both.extend_from_slice(words.seconds)?;
     control_of(words.alloc, graph, &both)
+}
+
+/// Whether two words are shown equal in a case in which no input chooses any more. Fails where
+/// memory is refused.
+fn are_equal_at_last(words: &Words<'_>, graph: &Graph, found: Found) -> Result<bool, AllocError>
+    ensures { IfOk result (λ is. IsTrue is → AreEqualWords graph.now words.now.firsts.now words.now.seconds.now) }
+{
+    if are_shown_anew(words, graph)? {
+        return Ok(true);
+    }
+    Ok(found == Found::Sums && words.are_added_up(graph)?)
 }
 
 #[tactic(auto, using(crate::proofs::CasesLaws::both_cases))]
@@ -144,7 +52,7 @@ fn are_equal_by(
         return Ok(false);
     }
     *left -= graph.len();
-    let found = found_in_copy(words, graph)?;
+    let found = words.found(graph, Search::Brief)?;
     if found == Found::Equal {
         return Ok(true);
     }
@@ -154,7 +62,7 @@ fn are_equal_by(
         control(words, graph)?
     };
     let Some(Control { variable, value }) = control else {
-        return Ok(found == Found::Sums && are_shown_in_turns(words, graph)?);
+        return are_equal_at_last(words, graph, found);
     };
     let larger = cofactor(words.alloc, graph, variable, value)?;
     if !are_equal_by(words, &larger, depth - 1, left)? {

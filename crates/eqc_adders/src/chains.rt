@@ -1,4 +1,4 @@
-//! Chains of carries in place of trees of prefixes, in a copy of a graph.
+//! Copies of graphs as they are, or with chains of carries in place of trees of prefixes.
 //!
 //! Beside a tree of prefixes a column's carry is g or (p and c), where g says whether a span of
 //! columns makes a carry, p whether it passes one on, and c is the carry into the span. Where the
@@ -14,8 +14,20 @@ ghost use Rattle.eqc_adders.specs.Chains.{IsBoth, IsShared, IsSplit, IsPrefix};
 
 use crate::leaves::{Leaves, make_left};
 use eqc_graph::{Graph, Node, is_negated, negated, node_of};
-use eqc_sweep::{Sweep, copied, no_copies};
+use eqc_sweep::{Sweep, below, copied, no_copies};
 use std::alloc::{AllocError, Global};
+
+/// In what shape a graph is copied.
+#[derive(Clone, Copy, PartialEq, Eq)]
+pub enum Shape {
+    /// As it is.
+    Plain,
+    /// Carries of trees of prefixes come as chains of single columns, so that adders are found of
+    /// them; the spans of the trees don't enter.
+    Chains,
+    /// The same, and an exclusive or in which something cancels out is made of what is left.
+    ShortChains,
+}
 
 /// So often spans are split in two: a span of 128 columns comes to single ones.
 const DEPTH: u32 = 7;
@@ -279,6 +291,7 @@ fn node_copy(
     k: u32,
     table: &[Option<u32>],
     sweep: &mut Sweep,
+    shape: Shape,
 ) -> Result<Option<u32>, AllocError>
     requires within { k < length graph.now }
     requires copies { AreCopies graph.now sweep.old table.now }
@@ -286,6 +299,9 @@ fn node_copy(
     ensures value { IfOk result (λ found. IfSome found (IsCopyOf graph.now sweep.new (2 * k))) }
 {
     let _count = graph.len();
+    if shape == Shape::Plain {
+        return gate_copy(graph.node(k), table, sweep);
+    }
     match prefix_of(graph, k) {
         Some(found) => prefix_copy(graph, table, sweep, found),
         None => gate_copy(graph.node(k), table, sweep),
@@ -299,13 +315,14 @@ fn enter(
     k: u32,
     sweep: &mut Sweep,
     table: &mut Vec<Option<u32>>,
+    shape: Shape,
 ) -> Result<(), AllocError>
     requires within { k < length graph.now }
     requires copies { AreCopies graph.now sweep.old table.old.items }
     ensures extends { Extends sweep.old sweep.new }
     ensures copies { IfOk result (λ _. AreCopies graph.now sweep.new table.new.items) }
 {
-    let copy = node_copy(graph, k, table.as_slice(), sweep)?;
+    let copy = node_copy(graph, k, table.as_slice(), sweep, shape)?;
     let at = k as usize;
     if at < table.len() {
         table[at] = copy;
@@ -364,8 +381,16 @@ fn mark_chain(
     Ok(())
 }
 
-/// Marks the nodes that enter a copy in which these literals are.
-fn entering(alloc: Global, graph: &Graph, literals: &[u32]) -> Result<Vec<bool>, AllocError> {
+/// Marks the nodes that enter a copy of a shape in which these literals are.
+fn entering(
+    alloc: Global,
+    graph: &Graph,
+    literals: &[u32],
+    shape: Shape,
+) -> Result<Vec<bool>, AllocError> {
+    if shape == Shape::Plain {
+        return below(alloc, graph, literals);
+    }
     let mut marks = vec![in alloc; false; graph.len() as usize]?;
     for literal in literals {
         mark(&mut marks, *literal);
@@ -392,30 +417,28 @@ fn entering(alloc: Global, graph: &Graph, literals: &[u32]) -> Result<Vec<bool>,
 
 #[tactic(auto, using(eqc_sweep::proofs::CopyingLemmas::entering_begins, eqc_sweep::proofs::CopyingLemmas::entering_more))]
 /// Copies what these literals of a graph are made of into another graph, and answers the literals
-/// that its nodes have there, none for nodes that didn't enter. Each has its node's value. Carries
-/// of trees of prefixes come as chains of single columns, so that adders are found of them; the
-/// spans of the trees don't enter. Where it is to be shortened, an exclusive or in which something
-/// cancels out is made of what is left. Fails where memory is refused, or where the other graph has
+/// that its nodes have there, none for nodes that didn't enter. Each has its node's value, in
+/// whatever shape it comes. Fails where memory is refused, or where the other graph has
 /// no room for more nodes.
-pub fn copy_with_chains(
+pub fn copy_shaped(
     alloc: Global,
     graph: &Graph,
     literals: &[u32],
     sweep: &mut Sweep,
-    is_shortened: bool,
+    shape: Shape,
 ) -> Result<Vec<Option<u32>>, AllocError>
     ensures extends { Extends sweep.old sweep.new }
     ensures copies { IfOk result (λ table. AreCopies graph.now sweep.new table.items) }
 {
-    let marks = entering(alloc, graph, literals)?;
+    let marks = entering(alloc, graph, literals, shape)?;
     let mut table = no_copies(alloc, graph)?;
     let mut leaves = Leaves::new(alloc);
     'nodes: for k in 0..graph.len() {
         if marks.get(k as usize).copied() == Some(true) {
-            if is_shortened {
+            if shape == Shape::ShortChains {
                 prepare(graph.node(k), &mut leaves, table.as_slice(), sweep)?;
             }
-            enter(graph, k, sweep, &mut table)?;
+            enter(graph, k, sweep, &mut table, shape)?;
         }
     }
     Ok(table)

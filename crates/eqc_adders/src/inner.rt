@@ -6,6 +6,7 @@
 //! them counts: the sum of an adder counts as its literals do, and its carry in the next column.
 
 use crate::adders::{Adders, Block, is_degenerate};
+use crate::chains::Shape;
 use crate::frames::{Frame, Frames};
 use crate::shown::{CHEAP, copies, copy_both};
 use crate::sums::{Limits, Sums};
@@ -386,7 +387,7 @@ pub fn find_lookalikes(
     limits: Limits,
 ) -> Result<Vec<Lookalikes>, AllocError> {
     let mut sweep = Sweep::new(alloc, Effort::of(CHEAP, limits.work))?;
-    let table = copy_both(alloc, graph, firsts, seconds, &mut sweep, false)?;
+    let table = copy_both(alloc, graph, firsts, seconds, &mut sweep, Shape::Chains)?;
     let mut sums = Sums::new(alloc, sweep);
     lookalikes_in(alloc, &table, firsts, seconds, &mut sums, limits)
 }

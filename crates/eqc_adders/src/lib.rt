@@ -16,12 +16,15 @@
 //!   (`specs/Chains.antt`), and `leaves`, what is left of exclusive ors in which something cancels
 //!   out
 //! - `shown`, words shown equal in a copy of what they are made of (`specs/Copies.antt`)
+//! - `compared`, what searches find of two words; `anew`, words shown equal by way of netlists that
+//!   are made anew (`eqc_products`)
 //! - `cases`, words shown equal for each value of the inputs that choose what a design does, and
 //!   `cofactor`, what is left of a graph where an input has a value (`specs/Cases.antt`)
 //! - `inner`, words that look alike, by the `frames` in which their nodes count
 #![tactic(auto)]
 
 mod adders;
+mod anew;
 mod cases;
 mod chains;
 mod choice;
@@ -29,6 +32,7 @@ mod chosen;
 mod cofactor;
 mod column;
 mod columns;
+mod compared;
 mod frames;
 mod inner;
 mod leaves;
@@ -39,8 +43,9 @@ mod shown;
 mod sums;
 mod support;
 
+pub use anew::are_equal_anew;
 pub use cases::are_equal_in_cases;
-pub use chains::copy_with_chains;
+pub use chains::{Shape, copy_shaped};
 pub use inner::{Lookalikes, find_lookalikes, is_made_alike};
 pub use names::words_of;
 pub use shown::are_shown_equal;

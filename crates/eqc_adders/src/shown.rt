@@ -5,7 +5,7 @@ ghost use Rattle.eqc_sweep.specs.Copying.{AreCopies};
 ghost use Rattle.eqc_sums.specs.Adding.{AreEqualWords};
 ghost use Rattle.eqc_adders.specs.Copies.{AreCopiesOf};
 
-use crate::chains::copy_with_chains;
+use crate::chains::{Shape, copy_shaped};
 use crate::sums::{Limits, Sums};
 use eqc_graph::Graph;
 use eqc_sweep::{Effort, Sweep, copied};
@@ -42,7 +42,7 @@ pub(crate) fn copies(
     Ok(all)
 }
 
-/// Copies what literals of both words or netlists are made of, as `copy_with_chains` does, into a
+/// Copies what literals of both words or netlists are made of, as `copy_shaped` does, into a
 /// graph in which nothing is asked from then on, and answers the copies of nodes. Fails where
 /// memory is refused.
 pub(crate) fn copy_both(
@@ -51,14 +51,14 @@ pub(crate) fn copy_both(
     firsts: &[u32],
     seconds: &[u32],
     sweep: &mut Sweep,
-    is_shortened: bool,
+    shape: Shape,
 ) -> Result<Vec<Option<u32>>, AllocError>
     ensures { IfOk result (λ table. AreCopies graph.now sweep.new table.items) }
 {
     let mut asked = Vec::new(alloc);
     asked.extend_from_slice(firsts)?;
     asked.extend_from_slice(seconds)?;
-    let table = copy_with_chains(alloc, graph, &asked, sweep, is_shortened);
+    let table = copy_shaped(alloc, graph, &asked, sweep, shape);
     sweep.ask_no_more();
     table
 }
@@ -75,12 +75,12 @@ fn copy_words(
 ) -> Result<Vec<Option<u32>>, AllocError>
     ensures { IfOk result (λ table. AreCopies graph.now sweep.new table.items) }
 {
-    let is_other = turn % 2 == 1;
     draw(sweep, turn)?;
-    if is_other {
-        copy_with_chains(alloc, graph, seconds, sweep, is_other)?;
+    if turn % 2 == 0 {
+        return copy_both(alloc, graph, firsts, seconds, sweep, Shape::Chains);
     }
-    copy_both(alloc, graph, firsts, seconds, sweep, is_other)
+    copy_shaped(alloc, graph, seconds, sweep, Shape::ShortChains)?;
+    copy_both(alloc, graph, firsts, seconds, sweep, Shape::ShortChains)
 }
 
 /// Whether two words are shown equal in a graph that has copies of nodes. It stands apart for its
@@ -107,11 +107,9 @@ fn show_copies(
     sums.show(&ps, &qs, limits)
 }
 
-/// Whether two words of as many literals of a graph, the lowest first, are shown equal within these
-/// limits, in a copy of what they are made of. In each of the turns, which are counted from 0,
-/// other patterns are simulated, and the second word enters first in each other one. Steps are no
-/// more than there are nodes. Fails where memory is refused.
-pub fn are_shown_equal(
+/// Whether two words are shown equal in one of the turns, which are counted from 0. Fails where
+/// memory is refused.
+fn are_shown_in(
     alloc: Global,
     graph: &Graph,
     firsts: &[u32],
@@ -125,4 +123,26 @@ pub fn are_shown_equal(
     let table = copy_words(alloc, graph, firsts, seconds, &mut sweep, turn)?;
     let mut sums = Sums::new(alloc, sweep);
     show_copies(alloc, &table, firsts, seconds, &mut sums, limits)
+}
+
+/// Whether two words of as many literals of a graph, the lowest first, are shown equal within these
+/// limits by what they add up to, in a copy of what they are made of, in one of up to so many
+/// turns. In each of them other patterns are simulated, and the second word enters first in each
+/// other one. Steps are no more than there are nodes. Fails where memory is refused.
+pub fn are_shown_equal(
+    alloc: Global,
+    graph: &Graph,
+    firsts: &[u32],
+    seconds: &[u32],
+    limits: Limits,
+    turns: u32,
+) -> Result<bool, AllocError>
+    ensures { IfOk result (λ is. IsTrue is → AreEqualWords graph.now firsts.now seconds.now) }
+{
+    'turns: for turn in 0..turns {
+        if are_shown_in(alloc, graph, firsts, seconds, limits, turn)? {
+            return Ok(true);
+        }
+    }
+    Ok(false)
 }

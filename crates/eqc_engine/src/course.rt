@@ -7,7 +7,7 @@
 //! | 2 | diagrams on one thread; in the larger room too where there are very many inputs and many outputs began | `first_diagrams` | all outputs, where they fit |
 //! | 3 | short rounds of sweeping, and a short search that refutes after each | `Inside::of`, `sweep_more`, `ask_while_found` | outputs that are found equal |
 //! | 4 | a short search, where simulation saw an output differ | `by_search` | all outputs, or all up to the first that differs |
-//! | 5 | words of outputs that add up the same, a short look for words inside that do, and for outputs that do in each case of what inputs choose | `by_sums`, `by_inner_sums` | outputs whose words are shown equal, and the same as 3 |
+//! | 5 | words of outputs that are equal to products made anew, or add up the same, a short look for words inside that do, and for outputs that do in each case of what inputs choose | `by_sums`, `by_inner_sums` | outputs whose words are shown equal, and the same as 3 |
 //! | 6 | 2 in a larger room | `in_room` | the outputs left, where they fit |
 //! | 7 | rounds of sweeping that take no longer than 8, where there are few inputs | `sweep_more` | the same as 3 |
 //! | 8 | diagrams by one worker who takes dead nodes back, where there are few inputs or very many | `in_room` | the outputs left, where they fit |
@@ -20,7 +20,7 @@
 //! | 15 | diagrams by all workers once more, where 13 found some outputs equal | `in_room` | the outputs left, where they fit |
 //!
 //! `known_by_structure` has 1, `decide_pair` begins with 2, `behind_first` with 3, and
-//! `by_sweeping` goes on from there: `by_short_rounds` has 3 and 4, `by_sums` 5, `by_one` 7 and 8,
+//! `by_sweeping` goes on from there with what `ATTEMPTS` lists: `by_short_rounds` has 3 and 4,
 //! `by_long_rounds` 9 to 11, and `by_longer_searches` 13 to 15. With few nodes or without conflicts
 //! 11 follows 2, and nothing else does.
 ghost use Rattle.std.specs.Prelude.{◌≡◌, None, length, IfOk, IfErr};
@@ -413,9 +413,13 @@ fn by_inner_sums<R: Threads + Wait + Sync, P: Progress<R> + Sync>(
     let Comparison {
         rt,
         alloc,
+        pair,
         watch,
         ..
     } = *comparison;
+    if known_outcome(alloc, pair, &alike.equal).is_some() {
+        return of_known(comparison, alike);
+    }
     let shown = inside.add_up_inside(rt, alloc, alike, look, watch);
     if !matches!(shown, Ok(true)) {
         return Err(Stop::NodeLimit);
@@ -494,6 +498,7 @@ fn by_longer_searches<R: Threads + Wait + Sync, P: Progress<R> + Sync>(
     requires options { options_code comparison.now.options.now ≡ None }
     requires inside { inside.old ≡ comparison.now.pair.now }
     requires known { IsKnown comparison.now.pair.now alike.old }
+    ensures inside { inside.new ≡ inside.old }
     ensures known { IsKnown comparison.now.pair.now alike.new }
     ensures kept { KeepsMarks comparison.now.pair.now alike.old.equal.items alike.new.equal.items }
     ensures report { IfOk result (λ report. report_of report ≡ pair_report comparison.now.options.now.every comparison.now.pair.now) }
@@ -512,14 +517,106 @@ fn by_longer_searches<R: Threads + Wait + Sync, P: Progress<R> + Sync>(
     }
 }
 
-/// The report over what sweeping finds equal, which becomes known: by short rounds, by words that
-/// add up the same, also inside or in cases, in a larger room, by one worker, by long rounds, by
-/// words inside once more, and by longer searches.
+/// What is tried of a pair that the first room left open.
+#[derive(Clone, Copy)]
+enum Attempt {
+    ShortRounds,
+    /// Words of outputs, by way of products that are made anew.
+    WordsAnew,
+    WordsOfOutputs,
+    WordsInside,
+    WordsInCases,
+    LargeRoom,
+    /// Rounds that take no longer than diagrams of one worker.
+    RoundsBetween,
+    /// Diagrams of one worker, unless so few nodes are left that longer rounds come first.
+    OneWorker,
+    LongRounds,
+    /// Diagrams of one worker where longer rounds came first.
+    OneWorkerLate,
+    WordsInsideLonger,
+    LongerSearches,
+}
+
+/// All attempts, in their order.
+static ATTEMPTS: &[Attempt] = &[
+    Attempt::ShortRounds,
+    Attempt::WordsAnew,
+    Attempt::WordsOfOutputs,
+    Attempt::WordsInside,
+    Attempt::WordsInCases,
+    Attempt::LargeRoom,
+    Attempt::RoundsBetween,
+    Attempt::OneWorker,
+    Attempt::LongRounds,
+    Attempt::OneWorkerLate,
+    Attempt::WordsInsideLonger,
+    Attempt::LongerSearches,
+];
+
+/// How far a run has come.
+#[derive(Drop)]
+struct Course {
+    rounds: Rounds,
+    /// Whether longer rounds come before diagrams of one worker.
+    is_late: bool,
+}
+
+/// The report by one attempt over what sweeping finds equal, which becomes known.
+fn by_attempt<R: Threads + Wait + Sync, P: Progress<R> + Sync>(
+    comparison: &Comparison<'_, R, P>,
+    inside: &mut Inside<'_>,
+    alike: &mut Alike,
+    course: &mut Course,
+    left: &mut Undecided,
+    attempt: Attempt,
+) -> Result<Report, Stop>
+    requires options { options_code comparison.now.options.now ≡ None }
+    requires inside { inside.old ≡ comparison.now.pair.now }
+    requires known { IsKnown comparison.now.pair.now alike.old }
+    ensures inside { inside.new ≡ inside.old }
+    ensures known { IsKnown comparison.now.pair.now alike.new }
+    ensures kept { KeepsMarks comparison.now.pair.now alike.old.equal.items alike.new.equal.items }
+    ensures report { IfOk result (λ report. report_of report ≡ pair_report comparison.now.options.now.every comparison.now.pair.now) }
+    ensures seen { IsLeftOf comparison.now.pair.now left.old → IsLeftOf comparison.now.pair.now left.new }
+    ensures told { KeepsTold left.old left.new }
+{
+    let conflicts = u64::from(comparison.options.conflicts);
+    let rounds = &mut course.rounds;
+    match attempt {
+        Attempt::ShortRounds => by_short_rounds(comparison, inside, alike, rounds, left),
+        Attempt::WordsAnew => {
+            by_inner_sums(comparison, inside, alike, rounds, Look::anew(conflicts))
+        }
+        Attempt::WordsOfOutputs => by_sums(comparison, inside, alike),
+        Attempt::WordsInside => {
+            by_inner_sums(comparison, inside, alike, rounds, Look::short(conflicts))
+        }
+        Attempt::WordsInCases => {
+            by_inner_sums(comparison, inside, alike, rounds, Look::in_cases(conflicts))
+        }
+        Attempt::LargeRoom => in_room(comparison, Room::Large, alike),
+        Attempt::RoundsBetween => {
+            course.is_late = rounds_between(comparison, inside, alike, rounds);
+            Err(Stop::NodeLimit)
+        }
+        Attempt::OneWorker if !course.is_late => in_room(comparison, Room::One, alike),
+        Attempt::OneWorkerLate if course.is_late => in_room(comparison, Room::One, alike),
+        Attempt::OneWorker | Attempt::OneWorkerLate => Err(Stop::NodeLimit),
+        Attempt::LongRounds => by_long_rounds(comparison, inside, alike, rounds, left),
+        Attempt::WordsInsideLonger => {
+            by_inner_sums(comparison, inside, alike, rounds, Look::long(conflicts))
+        }
+        Attempt::LongerSearches => by_longer_searches(comparison, inside, alike, left),
+    }
+}
+
+/// The report by all attempts, one after the other, until one leaves nothing open.
 fn by_sweeping<R: Threads + Wait + Sync, P: Progress<R> + Sync>(
     comparison: &Comparison<'_, R, P>,
     inside: &mut Inside<'_>,
     alike: &mut Alike,
-    rounds: &mut Rounds,
+    rounds: Rounds,
     left: &mut Undecided,
 ) -> Result<Report, Stop>
     requires options { options_code comparison.now.options.now ≡ None }
@@ -531,49 +628,17 @@ fn by_sweeping<R: Threads + Wait + Sync, P: Progress<R> + Sync>(
     ensures seen { IsLeftOf comparison.now.pair.now left.old → IsLeftOf comparison.now.pair.now left.new }
     ensures told { KeepsTold left.old left.new }
 {
-    let conflicts = u64::from(comparison.options.conflicts);
-    match by_short_rounds(comparison, inside, alike, rounds, left) {
-        Err(Stop::NodeLimit) => {}
-        report => return report,
-    }
-    match by_sums(comparison, inside, alike) {
-        Err(Stop::NodeLimit) => {}
-        report => return report,
-    }
-    match by_inner_sums(comparison, inside, alike, rounds, Look::short(conflicts)) {
-        Err(Stop::NodeLimit) => {}
-        report => return report,
-    }
-    match by_inner_sums(comparison, inside, alike, rounds, Look::in_cases(conflicts)) {
-        Err(Stop::NodeLimit) => {}
-        report => return report,
-    }
-    match in_room(comparison, Room::Large, alike) {
-        Err(Stop::NodeLimit) => {}
-        report => return report,
-    }
-    let is_late = rounds_between(comparison, inside, alike, rounds);
-    if !is_late {
-        match in_room(comparison, Room::One, alike) {
+    let mut course = Course {
+        rounds,
+        is_late: false,
+    };
+    'attempts: for attempt in ATTEMPTS {
+        match by_attempt(comparison, inside, alike, &mut course, left, *attempt) {
             Err(Stop::NodeLimit) => {}
             report => return report,
         }
     }
-    match by_long_rounds(comparison, inside, alike, rounds, left) {
-        Err(Stop::NodeLimit) => {}
-        report => return report,
-    }
-    if is_late {
-        match in_room(comparison, Room::One, alike) {
-            Err(Stop::NodeLimit) => {}
-            report => return report,
-        }
-    }
-    match by_inner_sums(comparison, inside, alike, rounds, Look::long(conflicts)) {
-        Err(Stop::NodeLimit) => {}
-        report => return report,
-    }
-    by_longer_searches(comparison, inside, alike, left)
+    Err(Stop::NodeLimit)
 }
 
 /// The report where the first room didn't do: by the diagrams of all workers alone where there are
@@ -603,11 +668,11 @@ fn behind_first<R: Threads + Wait + Sync, P: Progress<R> + Sync>(
     }
     watch.stage(rt, Stage::Sweeping);
     let conflicts = u64::from(options.conflicts);
-    let mut rounds = Rounds::of(pair, conflicts, options.workers, options.every);
+    let rounds = Rounds::of(pair, conflicts, options.workers, options.every);
     match Inside::of(rt, alloc, pair, alike, &rounds, watch) {
         Ok(inside) => {
             let mut inside = inside;
-            by_sweeping(comparison, &mut inside, alike, &mut rounds, left)
+            by_sweeping(comparison, &mut inside, alike, rounds, left)
         }
         // What was known before stays, and the run goes on without more.
         Err(_) => in_room(comparison, Room::Whole, alike),

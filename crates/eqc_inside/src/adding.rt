@@ -18,7 +18,7 @@ use crate::entering::{CHARACTERS, entered};
 use crate::inside::{Inside, NONE, Owned, literal_of};
 use crate::rounds::moved;
 use crate::searching::mark;
-use eqc_adders::{Limits, Sums, copy_with_chains, has_adders, words_of};
+use eqc_adders::{Limits, Shape, Sums, copy_shaped, has_adders, words_of};
 use eqc_build::Steps;
 use eqc_compare::{Alike, Progress, Stage, is_settled};
 use eqc_gates::needed_within;
@@ -73,6 +73,15 @@ impl Turn {
     /// second netlist comes before the first one.
     fn is_other_kind(&self) -> bool {
         self.number % 2 == 1
+    }
+
+    /// In what shape what words are made of is copied.
+    fn shape(&self) -> Shape {
+        if self.is_other_kind() {
+            Shape::ShortChains
+        } else {
+            Shape::Chains
+        }
     }
 
     /// The limits in a graph of so many nodes. What succeeds mostly takes fewer steps than there
@@ -270,13 +279,7 @@ fn copy_second_first(
     if task.turn.is_other_kind() {
         let side = Side::Second;
         let asked = literals_of_all(task.alloc, task.steps, literals, task.words, side)?;
-        copy_with_chains(
-            task.alloc,
-            plain.graph(),
-            &asked,
-            sweep,
-            task.turn.is_other_kind(),
-        )?;
+        copy_shaped(task.alloc, plain.graph(), &asked, sweep, Shape::ShortChains)?;
     }
     Ok(())
 }
@@ -294,13 +297,7 @@ fn chained(
     ensures { IfOk result (λ all. IsInside task.now.steps.now sweep.new all.items) }
 {
     let asked = literals_of_all(task.alloc, task.steps, literals, task.words, Side::Both)?;
-    let table = copy_with_chains(
-        task.alloc,
-        plain.graph(),
-        &asked,
-        sweep,
-        task.turn.is_other_kind(),
-    )?;
+    let table = copy_shaped(task.alloc, plain.graph(), &asked, sweep, task.turn.shape())?;
     moved(task.alloc, literals, &table)
 }
 

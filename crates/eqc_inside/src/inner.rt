@@ -24,8 +24,8 @@ use crate::entering::{CHARACTERS, entered};
 use crate::inside::{Inside, Owned, first_of_literal};
 use crate::rounds::{entry, open_literals};
 use eqc_adders::{
-    Limits, Lookalikes, are_equal_in_cases, are_shown_equal, find_lookalikes, has_adders,
-    is_made_alike,
+    Limits, Lookalikes, are_equal_anew, are_equal_in_cases, are_shown_equal, find_lookalikes,
+    has_adders, is_made_alike,
 };
 use eqc_build::Steps;
 use eqc_compare::{Alike, Progress, Stage};
@@ -107,6 +107,8 @@ enum Kind {
     Short,
     /// Words inside, until several aren't, each in several turns.
     Long,
+    /// Words of outputs, by way of products that are made anew, in larger graphs too.
+    Anew,
     /// Words of outputs, for each value of the inputs that choose what a design does, until the
     /// first one isn't, in a graph that isn't large.
     Cases,
@@ -136,6 +138,15 @@ impl Look {
         }
     }
 
+    /// A look for words of outputs that are products which a mapping took apart, equal to products
+    /// that are made anew.
+    pub fn anew(conflicts: u64) -> Look {
+        Look {
+            kind: Kind::Anew,
+            conflicts,
+        }
+    }
+
     /// A look for words of outputs that are equal for each value of the inputs that choose what a
     /// design does.
     pub fn in_cases(conflicts: u64) -> Look {
@@ -145,17 +156,25 @@ impl Look {
         }
     }
 
+    /// Whether words of outputs are meant, by their names.
+    fn is_of_outputs(self) -> bool {
+        match self.kind {
+            Kind::Short | Kind::Long => false,
+            Kind::Anew | Kind::Cases => true,
+        }
+    }
+
     /// How often it is looked for words, each time over those that were shown equal before.
     fn count(self) -> u32 {
         match self.kind {
             Kind::Short | Kind::Long => LOOKS,
-            Kind::Cases => 1,
+            Kind::Anew | Kind::Cases => 1,
         }
     }
 
     fn turns(self) -> u32 {
         match self.kind {
-            Kind::Short | Kind::Cases => 1,
+            Kind::Short | Kind::Anew | Kind::Cases => 1,
             Kind::Long => TURNS,
         }
     }
@@ -163,14 +182,14 @@ impl Look {
     fn most_failed(self) -> u32 {
         match self.kind {
             Kind::Short | Kind::Cases => 1,
-            Kind::Long => MOST_FAILED,
+            Kind::Long | Kind::Anew => MOST_FAILED,
         }
     }
 
     fn most_nodes(self) -> u32 {
         match self.kind {
             Kind::Short | Kind::Cases => FEW_NODES,
-            Kind::Long => MOST_NODES,
+            Kind::Long | Kind::Anew => MOST_NODES,
         }
     }
 
@@ -185,7 +204,7 @@ impl Look {
                 work: limits.work / u64::from(PART),
                 ..limits
             },
-            Kind::Long | Kind::Cases => limits,
+            Kind::Long | Kind::Anew | Kind::Cases => limits,
         }
     }
 }
@@ -206,16 +225,16 @@ struct Task<'a> {
 fn is_shown(task: &Task<'_>, graph: &Graph, word: &Lookalikes) -> Result<bool, AllocError>
     ensures { IfOk result (λ is. IsTrue is → AreEqualWords graph.now word.now.firsts.items word.now.seconds.items) }
 {
+    let Lookalikes { firsts, seconds } = word;
     let limits = task.look.limits(graph.len());
-    if task.look.kind == Kind::Cases {
-        return are_equal_in_cases(task.alloc, graph, &word.firsts, &word.seconds, limits);
-    }
-    'turns: for turn in 0..task.look.turns() {
-        if are_shown_equal(task.alloc, graph, &word.firsts, &word.seconds, limits, turn)? {
-            return Ok(true);
+    match task.look.kind {
+        Kind::Anew => are_equal_anew(task.alloc, graph, firsts, seconds, limits),
+        Kind::Cases => are_equal_in_cases(task.alloc, graph, firsts, seconds, limits),
+        Kind::Short | Kind::Long => {
+            let turns = task.look.turns();
+            are_shown_equal(task.alloc, graph, firsts, seconds, limits, turns)
         }
     }
-    Ok(false)
 }
 
 /// What stands for the literals of steps since words that look alike are shown equal, one by one,
@@ -280,7 +299,7 @@ fn tried(
     requires outputs { All (λ o. o < length task.now.steps.now.pair.first.outputs) task.now.outputs.now }
     requires words { All (λ w. All (λ o. o < length task.now.steps.now.pair.first.outputs) w.items) task.now.words.now }
 {
-    if task.look.kind == Kind::Cases {
+    if task.look.is_of_outputs() {
         return words_of_outputs(task, literals);
     }
     let limits = task.look.limits(graph.len());
@@ -373,7 +392,7 @@ impl<'a> Inside<'a> {
         requires { AreEqualOutputs self.now marks.now }
     {
         match look.kind {
-            Kind::Cases => {
+            Kind::Anew | Kind::Cases => {
                 Ok(self.sweep.graph().len() <= look.most_nodes() && has_adders(alloc, &self.sweep)?)
             }
             Kind::Short | Kind::Long => self.has_lookalikes(alloc, marks, look),

@@ -44,7 +44,7 @@ fn inside(alloc: Global, graph: &Graph, p: &[u32], q: &[u32]) -> Result<usize, A
     let words = find_lookalikes(alloc, graph, p, q, limits)?;
     let mut count = 0usize;
     for word in &words {
-        if are_shown_equal(alloc, graph, &word.firsts, &word.seconds, limits, 0)? {
+        if are_shown_equal(alloc, graph, &word.firsts, &word.seconds, limits, 1)? {
             count = count.wrapping_add(word.firsts.len());
         }
     }

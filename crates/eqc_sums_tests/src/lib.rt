@@ -1,10 +1,12 @@
 //! The tests of words that are shown equal by sums: multipliers of several architectures.
 //!
-//! - `multipliers`, how they are built; `words`, which of them are shown equal, and `designs`, which
-//!   are inside a design
+//! - `multipliers`, how they are built; `words`, which of them are shown equal, `anew`, which of
+//!   those that a mapping took apart, and `designs`, which are inside a design
 //! - `ends`, what ends a test
 #![tactic(auto)]
 
+#[cfg(test)]
+mod anew;
 #[cfg(test)]
 mod designs;
 #[cfg(test)]

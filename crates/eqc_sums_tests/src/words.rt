@@ -2,7 +2,7 @@
 
 use crate::ends::same;
 use crate::multipliers::{Architecture, Factors, and, product, xor};
-use eqc_adders::{Limits, Sums, copy_with_chains, has_adders, words_of};
+use eqc_adders::{Limits, Shape, Sums, copy_shaped, has_adders, words_of};
 use eqc_graph::negated;
 use eqc_sweep::{Effort, Sweep, copied};
 use std::alloc::{AllocError, Global};
@@ -135,7 +135,7 @@ fn chained(
     sweep: &mut Sweep,
 ) -> Result<(Option<u32>, u32), AllocError> {
     let tree = carry(plain, true)?;
-    let table = copy_with_chains(alloc, plain.graph(), &[tree], sweep, false)?;
+    let table = copy_shaped(alloc, plain.graph(), &[tree], sweep, Shape::Chains)?;
     Ok((copied(&table, tree), carry(sweep, false)?))
 }
 

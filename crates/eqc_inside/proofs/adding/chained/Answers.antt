@@ -6,7 +6,7 @@ use Rattle.eqc_inside.proofs.adding.chained.Goals as goal
 pub returns : goal.returns
 returns c =
     let plain = c.args.plain.now in
-    let swept = c.copy_with_chains.new.sweep in
+    let swept = c.copy_shaped.new.sweep in
     let table = c.deref-2.result.now in
     let first : AreCopies c.graph.result.now swept table =
     subst (AreCopies c.graph.result.now swept) (sym c.deref-2.ensures.value)

@@ -1,6 +1,6 @@
 use Rattle.std.specs.Prelude.{◌≡◌, ℕ, ◌<◌, slice_index}
 use Rattle.eqc_sweep.specs.Finding.{AreEqual}
-use Rattle.eqc_adders.proofs.cases.found_of_copies.Given as goal
+use Rattle.eqc_adders.proofs.compared.found_of_copies.Given as goal
 
 abbrev pub invariant-bits : goal.invariant-bits
 invariant-bits l = record {

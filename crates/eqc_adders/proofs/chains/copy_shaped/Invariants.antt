@@ -1,5 +1,5 @@
 use Rattle.eqc_sweep.proofs.CopyingLemmas.{IsEntering}
-use Rattle.eqc_adders.proofs.chains.copy_with_chains.Given as goal
+use Rattle.eqc_adders.proofs.chains.copy_shaped.Given as goal
 
 abbrev pub invariant-nodes : goal.invariant-nodes
 invariant-nodes l = IsEntering l.graph l.fn.sweep l.sweep l.table.items

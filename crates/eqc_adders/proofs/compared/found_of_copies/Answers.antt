@@ -1,7 +1,7 @@
 use Rattle.std.proofs.Common.{arith}
 use Rattle.eqc_graph.proofs.GraphLemmas.{extends_itself}
 use Rattle.eqc_adders.proofs.ShownLaws.{words_back}
-use Rattle.eqc_adders.proofs.cases.found_of_copies.Goals as goal
+use Rattle.eqc_adders.proofs.compared.found_of_copies.Goals as goal
 
 pub returns : goal.returns
 returns c = λ old are _.

@@ -1,0 +1,116 @@
+//! Graphs with adders, of gates that aren't constant.
+ghost use Rattle.std.specs.Prelude.{◌≡◌, ◌/◌, ◌<◌, true, length};
+
+use eqc_graph::{Graph, Node, negated, node_of};
+use std::alloc::{AllocError, Global};
+
+/// The literals that are always false and always true.
+pub(crate) const FALSE: u32 = 0;
+
+pub(crate) const TRUE: u32 = 1;
+
+/// A graph, the sums of its adders, and all literals of these.
+#[derive(Drop)]
+pub(crate) struct Netlist {
+    graph: Graph,
+    sums: Vec<u32>,
+    ends: Vec<u32>,
+}
+
+impl Netlist {
+    /// The constant alone. Fails where memory is refused.
+    pub(crate) fn new(alloc: Global) -> Result<Netlist, AllocError> {
+        Ok(Netlist {
+            graph: Graph::new(alloc)?,
+            sums: Vec::new(alloc),
+            ends: Vec::new(alloc),
+        })
+    }
+
+    pub(crate) fn graph(&self) -> &Graph {
+        &self.graph
+    }
+
+    pub(crate) fn into_graph(self) -> Graph {
+        self.graph
+    }
+
+    /// The sums of all adders that were made.
+    pub(crate) fn sums(&self) -> &[u32] {
+        &self.sums
+    }
+
+    /// What all adders that were made add up, their sums and their carries.
+    pub(crate) fn ends(&self) -> &[u32] {
+        &self.ends
+    }
+
+    /// Whether a literal's node is there.
+    fn has(&self, literal: u32) -> bool
+        ensures { result ≡ true → literal / 2 < length self.now.graph }
+    {
+        node_of(literal) < self.graph.len()
+    }
+
+    /// The literal of an input. Fails where memory is refused.
+    pub(crate) fn input(&mut self, variable: u32) -> Result<u32, AllocError> {
+        self.graph.push(Node::Input(variable))
+    }
+
+    /// The conjunction of two literals. Fails where memory is refused, as all that follows does.
+    pub(crate) fn and(&mut self, x: u32, y: u32) -> Result<u32, AllocError> {
+        if x == FALSE || y == FALSE || x == negated(y) || !self.has(x) || !self.has(y) {
+            return Ok(FALSE);
+        }
+        if x == TRUE || x == y {
+            return Ok(y);
+        }
+        if y == TRUE {
+            return Ok(x);
+        }
+        self.graph.push(Node::And(x, y))
+    }
+
+    /// Whether just one of two literals is true.
+    pub(crate) fn xor(&mut self, x: u32, y: u32) -> Result<u32, AllocError> {
+        if x == FALSE || !self.has(x) {
+            return Ok(y);
+        }
+        if y == FALSE || !self.has(y) {
+            return Ok(x);
+        }
+        if x == TRUE {
+            return Ok(negated(y));
+        }
+        if y == TRUE {
+            return Ok(negated(x));
+        }
+        if x == y {
+            return Ok(FALSE);
+        }
+        if x == negated(y) {
+            return Ok(TRUE);
+        }
+        self.graph.push(Node::Xor(x, y))
+    }
+
+    /// Whether one of two literals is true.
+    pub(crate) fn or(&mut self, x: u32, y: u32) -> Result<u32, AllocError> {
+        let neither = self.and(negated(x), negated(y))?;
+        Ok(negated(neither))
+    }
+
+    /// The sum and the carry of three literals.
+    pub(crate) fn add(&mut self, x: u32, y: u32, z: u32) -> Result<(u32, u32), AllocError> {
+        let one = self.xor(x, y)?;
+        let sum = self.xor(one, z)?;
+        let both = self.and(x, y)?;
+        let carried = self.and(one, z)?;
+        let carry = self.or(both, carried)?;
+        if carry != FALSE {
+            self.sums.push(sum)?;
+            self.ends.extend_from_slice(&[x, y, z, sum, carry])?;
+        }
+        Ok((sum, carry))
+    }
+}

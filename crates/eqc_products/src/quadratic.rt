@@ -1,0 +1,200 @@
+//! A word as a polynomial of degree two in its inputs.
+
+use crate::simulation::{ASSIGNMENTS, Values, random_patterns, variables_of};
+use eqc_graph::Graph;
+use eqc_sweep::Random;
+use std::alloc::{AllocError, Global};
+
+/// Words that depend on more inputs aren't looked at: a product of 64 bits depends on 128.
+const MOST_INPUTS: usize = 192;
+
+/// Values of so many nodes are simulated at most.
+const LOOKS: usize = 40_000_000;
+
+/// So often all assignments at once are compared.
+const ROUNDS: u32 = 2;
+
+/// Two places among the inputs, or one twice.
+#[derive(Clone, Copy)]
+struct Places {
+    one: usize,
+    other: usize,
+}
+
+/// How often the conjunction of two inputs counts.
+#[derive(Clone, Copy)]
+pub(crate) struct Pair {
+    pub(crate) one: usize,
+    pub(crate) other: usize,
+    pub(crate) times: u128,
+}
+
+/// A polynomial, modulo 2^bits: a constant, how often each input counts, and the conjunction of two.
+#[derive(Drop)]
+pub(crate) struct Quadratic {
+    pub(crate) bits: usize,
+    /// The inputs' variables, in ascending order.
+    pub(crate) variables: Vec<u32>,
+    pub(crate) constant: u128,
+    pub(crate) singles: Vec<u128>,
+    pub(crate) pairs: Vec<Pair>,
+}
+
+/// The numbers below 2^bits, for which all digits are ones.
+pub(crate) fn modulus_of(bits: usize) -> u128 {
+    if bits >= 128 {
+        u128::MAX
+    } else {
+        (1u128 << bits) - 1
+    }
+}
+
+/// Puts a one into the pattern of a place.
+fn set(patterns: &mut Vec<u128>, place: usize, assignment: usize) {
+    if let Some(pattern) = patterns.get_mut(place) {
+        *pattern = *pattern | 1u128 << (assignment % ASSIGNMENTS);
+    }
+}
+
+/// The numbers that a word stands for where the inputs at two places are true and the others are
+/// false.
+fn numbers_at(
+    alloc: Global,
+    graph: &Graph,
+    word: &[u32],
+    variables: &[u32],
+    places: &[Places],
+) -> Result<Vec<u128>, AllocError> {
+    let mut numbers = Vec::with_capacity(alloc, places.len())?;
+    for part in places.chunks(ASSIGNMENTS) {
+        let mut patterns = vec![in alloc; 0u128; variables.len()]?;
+        for assignment in 0..part.len() {
+            set(&mut patterns, part[assignment].one, assignment);
+            set(&mut patterns, part[assignment].other, assignment);
+        }
+        let values = Values::of(alloc, graph, variables, &patterns)?;
+        for assignment in 0..part.len() {
+            numbers.push(values.number(word, assignment))?;
+        }
+    }
+    Ok(numbers)
+}
+
+/// No input, each input, and each two of so many.
+fn all_places(alloc: Global, count: usize) -> Result<Vec<Places>, AllocError> {
+    let mut places = Vec::new(alloc);
+    places.push(Places {
+        one: count,
+        other: count,
+    })?;
+    for one in 0..count {
+        places.push(Places { one, other: one })?;
+    }
+    for one in 0..count {
+        for other in 0..one {
+            places.push(Places { one, other })?;
+        }
+    }
+    Ok(places)
+}
+
+/// The polynomial that has these numbers where up to two inputs are true.
+fn through(
+    alloc: Global,
+    bits: usize,
+    variables: Vec<u32>,
+    places: &[Places],
+    numbers: &[u128],
+) -> Result<Quadratic, AllocError> {
+    let modulus = modulus_of(bits);
+    let constant = numbers.first().copied().unwrap_or(0);
+    let mut singles = vec![in alloc; 0u128; variables.len()]?;
+    let mut pairs = Vec::new(alloc);
+    for k in 1..places.len().min(numbers.len()) {
+        let Places { one, other } = places[k];
+        let more = numbers[k].wrapping_sub(constant);
+        if one >= singles.len() || other >= singles.len() {
+            continue;
+        }
+        if one == other {
+            singles[one] = more & modulus;
+        } else {
+            let times = more.wrapping_sub(singles[one]).wrapping_sub(singles[other]) & modulus;
+            if times != 0 {
+                pairs.push(Pair { one, other, times })?;
+            }
+        }
+    }
+    Ok(Quadratic {
+        bits,
+        variables,
+        constant,
+        singles,
+        pairs,
+    })
+}
+
+impl Quadratic {
+    /// The polynomial that a word is, the lowest literal first: none where it is of another kind.
+    /// That it is one is only looked at. Fails where memory is refused.
+    pub(crate) fn of(
+        alloc: Global,
+        graph: &Graph,
+        word: &[u32],
+    ) -> Result<Option<Quadratic>, AllocError> {
+        let variables = variables_of(alloc, graph, word)?;
+        let count = variables.len();
+        let looks = (count.saturating_mul(count) / (2 * ASSIGNMENTS) + 1).saturating_mul(
+            graph.len() as usize,
+        );
+        if count > MOST_INPUTS || looks > LOOKS || word.len() > 128 {
+            return Ok(None);
+        }
+        let places = all_places(alloc, count)?;
+        let numbers = numbers_at(alloc, graph, word, &variables, &places)?;
+        let found = through(alloc, word.len(), variables, &places, &numbers)?;
+        Ok(if found.is_same(alloc, graph, word)? {
+            Some(found)
+        } else {
+            None
+        })
+    }
+
+    /// The number that it is where the inputs have these values, by their places, under an
+    /// assignment.
+    fn number(&self, patterns: &[u128], assignment: usize) -> u128 {
+        let bit = |place: usize| {
+            patterns.get(place).copied().unwrap_or(0) >> (assignment % ASSIGNMENTS) & 1
+        };
+        let mut number = self.constant;
+        for place in 0..self.singles.len() {
+            number = number.wrapping_add(self.singles[place].wrapping_mul(bit(place)));
+        }
+        for pair in &self.pairs {
+            let both = bit(pair.one) & bit(pair.other);
+            number = number.wrapping_add(pair.times.wrapping_mul(both));
+        }
+        number & modulus_of(self.bits)
+    }
+
+    /// Whether a word stands for the same number under pseudo-random assignments. Fails where
+    /// memory is refused.
+    pub(crate) fn is_same(
+        &self,
+        alloc: Global,
+        graph: &Graph,
+        word: &[u32],
+    ) -> Result<bool, AllocError> {
+        let mut random = Random::numbered(1);
+        for _ in 0..ROUNDS {
+            let patterns = random_patterns(alloc, &mut random, self.variables.len())?;
+            let values = Values::of(alloc, graph, &self.variables, &patterns)?;
+            for assignment in 0..ASSIGNMENTS {
+                if values.number(word, assignment) != self.number(&patterns, assignment) {
+                    return Ok(false);
+                }
+            }
+        }
+        Ok(true)
+    }
+}
