@@ -13,7 +13,7 @@ use crate::column::{Column, Item, Likely};
 use crate::place::minus;
 use eqc_graph::{Graph, Node, node_of};
 use eqc_sums::{Form, Reduction};
-use eqc_sweep::Sweep;
+use eqc_sweep::{Sweep, below};
 use std::alloc::{AllocError, Global};
 
 /// The literal that is always true.
@@ -108,32 +108,6 @@ fn note(
         likely.push(Likely { x, y, z, score })?;
     }
     Ok(())
-}
-
-fn mark(marks: &mut [bool], literal: u32) {
-    let node = node_of(literal) as usize;
-    if node < marks.len() {
-        marks[node] = true;
-    }
-}
-
-/// Marks the nodes below a word. Fails where memory is refused.
-fn marked_below(alloc: Global, graph: &Graph, word: &[u32]) -> Result<Vec<bool>, AllocError> {
-    let mut marks = vec![in alloc; false; graph.len() as usize]?;
-    for literal in word {
-        mark(&mut marks, *literal);
-    }
-    for back in 0..graph.len() {
-        let k = graph.len() - 1 - back;
-        if !marks.get(k as usize).copied().unwrap_or(false) {
-            continue;
-        }
-        if let Node::And(x, y) | Node::Xor(x, y) = graph.node(k) {
-            mark(&mut marks, x);
-            mark(&mut marks, y);
-        }
-    }
-    Ok(marks)
 }
 
 impl Below {
@@ -268,7 +242,7 @@ impl Columns {
     ) -> Result<Columns, AllocError> {
         let (word, is_second) = kept;
         let below = Below {
-            marks: marked_below(alloc, graph, word)?,
+            marks: below(alloc, graph, word)?,
         };
         let mut columns = Vec::new(alloc);
         for _ in 0..word.len() {

@@ -6,13 +6,10 @@
 //! them counts: the sum of an adder counts as its literals do, and its carry in the next column.
 
 use crate::adders::{Adders, Block, is_degenerate};
-use crate::chains::Shape;
 use crate::frames::{Frame, Frames};
-use crate::shown::{CHEAP, copies, copy_both};
-use crate::sums::{Limits, Sums};
 use eqc_graph::{Graph, Node, is_negated, negated_if, node_of};
 use eqc_sums::MOST_LITERALS;
-use eqc_sweep::{Effort, Sweep, below};
+use eqc_sweep::{Sweep, below};
 use std::alloc::{AllocError, Global};
 
 /// Two words that look alike, the lowest literal first, where false stands in both in columns of
@@ -319,75 +316,4 @@ pub(crate) fn inner_words(
         from = to;
     }
     Ok(words)
-}
-
-/// By nodes of a copy of a graph, the literal of the graph's lowest node that is one there.
-fn origins(alloc: Global, table: &[Option<u32>], nodes: u32) -> Result<Vec<u32>, AllocError> {
-    let mut origins = vec![in alloc; 0; nodes as usize]?;
-    for back in 0..table.len() {
-        let k = table.len() - 1 - back;
-        if let Some(copy) = table[k] {
-            let at = node_of(copy) as usize;
-            if at < origins.len() && k < 1 << 30 {
-                origins[at] = negated_if(2 * k as u32, is_negated(copy));
-            }
-        }
-    }
-    Ok(origins)
-}
-
-/// The literals of a graph whose copies these are, false for those that have none.
-fn originals(alloc: Global, origins: &[u32], literals: &[u32]) -> Result<Vec<u32>, AllocError> {
-    let mut all = Vec::with_capacity(alloc, literals.len())?;
-    for literal in literals {
-        let origin = origins
-            .get(node_of(*literal) as usize)
-            .copied()
-            .unwrap_or(0);
-        all.push(negated_if(origin, is_negated(*literal)))?;
-    }
-    Ok(all)
-}
-
-/// Words that look alike in a graph that has copies of nodes, as literals of the graph of these. It
-/// stands apart for its proof's sake: where a graph is let go in each exit that takes many times
-/// longer.
-fn lookalikes_in(
-    alloc: Global,
-    table: &[Option<u32>],
-    firsts: &[u32],
-    seconds: &[u32],
-    sums: &mut Sums,
-    limits: Limits,
-) -> Result<Vec<Lookalikes>, AllocError> {
-    let origins = origins(alloc, table, sums.sweep().graph().len())?;
-    sums.find_adders(limits)?;
-    sums.find_carries()?;
-    let one = copies(alloc, table, firsts)?;
-    let other = copies(alloc, table, seconds)?;
-    let mut words = Vec::new(alloc);
-    for word in &sums.inner_words(&one, &other)? {
-        words.push(Lookalikes {
-            firsts: originals(alloc, &origins, &word.firsts)?,
-            seconds: originals(alloc, &origins, &word.seconds)?,
-        })?;
-    }
-    Ok(words)
-}
-
-/// Words inside two netlists that look alike, as literals of the graph that has both: of what these
-/// literals of each are made of. It is looked for them in a copy in which nodes that are easily
-/// found equal are one, by the adders that are found there within these limits. Nothing is promised
-/// of them. Fails where memory is refused.
-pub fn find_lookalikes(
-    alloc: Global,
-    graph: &Graph,
-    firsts: &[u32],
-    seconds: &[u32],
-    limits: Limits,
-) -> Result<Vec<Lookalikes>, AllocError> {
-    let mut sweep = Sweep::new(alloc, Effort::of(CHEAP, limits.work))?;
-    let table = copy_both(alloc, graph, firsts, seconds, &mut sweep, Shape::Chains)?;
-    let mut sums = Sums::new(alloc, sweep);
-    lookalikes_in(alloc, &table, firsts, seconds, &mut sums, limits)
 }

@@ -249,7 +249,7 @@ impl Sums {
 
     /// Looks for adders also by their carries, where nothing depends on the sum: it is made. Fails
     /// where memory is refused.
-    pub(crate) fn find_carries(&mut self) -> Result<(), AllocError>
+    pub fn find_carries(&mut self) -> Result<(), AllocError>
         ensures { Extends self.old.reduction.sweep self.new.reduction.sweep }
     {
         self.adders.find_by_carries(&mut self.reduction)
@@ -257,7 +257,7 @@ impl Sums {
 
     /// Words inside two netlists that look alike, of what these literals of each are made of, by
     /// the adders that were found. Nothing is promised of them. Fails where memory is refused.
-    pub(crate) fn inner_words(
+    pub fn inner_words(
         &self,
         firsts: &[u32],
         seconds: &[u32],

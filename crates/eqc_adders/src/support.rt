@@ -1,11 +1,11 @@
 //! The inputs below a node, or the nodes of which it is the exclusive or, where these are few.
 
 /// How many there is room for.
-pub(crate) const ROOM: usize = 16;
+pub const ROOM: usize = 16;
 
 /// Some inputs, or other nodes.
 #[derive(Clone, Copy)]
-pub(crate) struct Support {
+pub struct Support {
     inputs: [u32; 16],
     /// How many there are, or one more than there is room for.
     count: usize,
@@ -19,7 +19,7 @@ impl Support {
         }
     }
 
-    pub(crate) fn many() -> Support {
+    pub fn many() -> Support {
         Support {
             inputs: [0; 16],
             count: ROOM + 1,
@@ -27,7 +27,7 @@ impl Support {
     }
 
     /// How many there are, or more than `ROOM`.
-    pub(crate) fn count(&self) -> usize {
+    pub fn count(&self) -> usize {
         self.count
     }
 
@@ -42,7 +42,7 @@ impl Support {
     }
 
     /// The one at a place.
-    pub(crate) fn at(&self, place: usize) -> Option<u32> {
+    pub fn at(&self, place: usize) -> Option<u32> {
         if place < ROOM && place < self.count {
             Some(self.inputs[place])
         } else {
@@ -65,7 +65,7 @@ impl Support {
 }
 
 /// One alone.
-pub(crate) fn of_one(node: u32) -> Support {
+pub fn of_one(node: u32) -> Support {
     Support::none().with(node)
 }
 
@@ -84,7 +84,7 @@ pub(crate) fn joined(first: Support, second: Support) -> Support {
 }
 
 /// Those of one of two that the other one hasn't.
-pub(crate) fn differing(first: Support, second: Support) -> Support {
+pub fn differing(first: Support, second: Support) -> Support {
     if first.count > ROOM || second.count > ROOM {
         return Support::many();
     }

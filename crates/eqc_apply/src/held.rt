@@ -57,10 +57,8 @@ pub(crate) fn grow_counts(counts: &mut Vec<u64>, x: u32) -> Result<(), Stop>
     if (x as usize) < counts.len() {
         return Ok(());
     }
-    match counts.resize(len, 0) {
-        Ok(()) => Ok(()),
-        Err(_) => Err(Stop::Memory),
-    }
+    counts.resize(len, 0)?;
+    Ok(())
 }
 
 // Counts a name that came, where it isn't counted, and gives it back where it is: then it is held

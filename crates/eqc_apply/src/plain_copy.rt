@@ -157,10 +157,8 @@ impl PlainCopy {
         ensures places { self.new.places ≡ self.old.places }
         ensures only { IfErr result (λ s. s ≡ Stop.Memory) }
     {
-        match self.visits.push(visit) {
-            Ok(()) => Ok(()),
-            Err(_) => Err(Stop::Memory),
-        }
+        self.visits.push(visit)?;
+        Ok(())
     }
 
     /// Copies a node whose children are copied.

@@ -73,8 +73,6 @@ pub fn allows_none<R, D: Diagrams<R>>(
     let Some(root) = steps.assumed_root() else {
         return Ok(false);
     };
-    match plan_below(alloc, steps, &[root]) {
-        Ok(plan) => is_never_built(alloc, rt, d, &plan, root),
-        Err(_) => Err(Stop::Memory),
-    }
+    let plan = plan_below(alloc, steps, &[root])?;
+    is_never_built(alloc, rt, d, &plan, root)
 }

@@ -237,12 +237,8 @@ pub fn compare_known<R, D: Diagrams<R>, G: Gate<R>>(
     if allows_none(rt, alloc, d, pair)? {
         return Ok(Outcome::Vacuous);
     }
-    let Ok(schedule) = Schedule::of(alloc, pair, every, alike) else {
-        return Err(Stop::Memory);
-    };
-    let Ok(mut kept) = StepDiagrams::for_each(alloc, pair) else {
-        return Err(Stop::Memory);
-    };
+    let schedule = Schedule::of(alloc, pair, every, alike)?;
+    let mut kept = StepDiagrams::for_each(alloc, pair)?;
     let found = compare_in_turn(alloc, rt, d, &schedule, again, &mut kept, gate);
     kept.give_back(d);
     Ok(Outcome::Compared(found?))

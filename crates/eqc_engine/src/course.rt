@@ -7,7 +7,7 @@
 //! | 2 | diagrams on one thread; in the larger room too where there are very many inputs and many outputs began | `first_diagrams` | all outputs, where they fit |
 //! | 3 | short rounds of sweeping, and a short search that refutes after each | `Inside::of`, `sweep_more`, `ask_while_found` | outputs that are found equal |
 //! | 4 | a short search, where simulation saw an output differ | `by_search` | all outputs, or all up to the first that differs |
-//! | 5 | words of outputs that are equal to products made anew, or add up the same, a short look for words inside that do, and for outputs that do in each case of what inputs choose | `by_sums`, `by_inner_sums` | outputs whose words are shown equal, and the same as 3 |
+//! | 5 | words of outputs that are equal to products made anew, or add up the same or what an array does, a short look for words inside that do, and for outputs that do in each case of what inputs choose | `by_sums`, `by_inner_sums` | outputs whose words are shown equal, and the same as 3 |
 //! | 6 | 2 in a larger room | `in_room` | the outputs left, where they fit |
 //! | 7 | rounds of sweeping that take no longer than 8, where there are few inputs | `sweep_more` | the same as 3 |
 //! | 8 | diagrams by one worker who takes dead nodes back, where there are few inputs or very many | `in_room` | the outputs left, where they fit |
@@ -161,9 +161,7 @@ fn first_diagrams<R, P: Progress<R>>(
         Some(outcome) => return found_report(alloc, pair, options.every, outcome),
         None => {}
     }
-    let Ok(again) = alike.clone() else {
-        return Err(Stop::Memory);
-    };
+    let again = alike.clone()?;
     tell_outputs(comparison, Stage::FirstDiagrams);
     let begun = Begun::new(watch);
     let report = check_first(comparison, again, first_nodes(pair, options), &begun);
@@ -523,6 +521,8 @@ enum Attempt {
     ShortRounds,
     /// Words of outputs, by way of products that are made anew.
     WordsAnew,
+    /// Words of outputs that are sums of products, added up briefly or both as an array.
+    WordsByArrays,
     WordsOfOutputs,
     WordsInside,
     WordsInCases,
@@ -542,6 +542,7 @@ enum Attempt {
 static ATTEMPTS: &[Attempt] = &[
     Attempt::ShortRounds,
     Attempt::WordsAnew,
+    Attempt::WordsByArrays,
     Attempt::WordsOfOutputs,
     Attempt::WordsInside,
     Attempt::WordsInCases,
@@ -589,6 +590,15 @@ fn by_attempt<R: Threads + Wait + Sync, P: Progress<R> + Sync>(
             by_inner_sums(comparison, inside, alike, rounds, Look::anew(conflicts))
         }
         Attempt::WordsOfOutputs => by_sums(comparison, inside, alike),
+        Attempt::WordsByArrays => {
+            by_inner_sums(
+                comparison,
+                inside,
+                alike,
+                rounds,
+                Look::by_arrays(conflicts),
+            )
+        }
         Attempt::WordsInside => {
             by_inner_sums(comparison, inside, alike, rounds, Look::short(conflicts))
         }

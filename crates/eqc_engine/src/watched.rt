@@ -84,13 +84,9 @@ pub(crate) fn all_watched<'x, D: References + Drop, P>(
     ensures each { IfOk result (λ all. map (λ w. w.diagrams) all.items ≡ members.items) }
     ensures only { IfErr result (λ s. s ≡ Stop.Memory) }
 {
-    let Ok(mut all) = Vec::with_capacity(alloc, members.len()) else {
-        return Err(Stop::Memory);
-    };
+    let mut all = Vec::with_capacity(alloc, members.len())?;
     for diagrams in members {
-        let Ok(()) = all.push(Watched { diagrams, watch }) else {
-            return Err(Stop::Memory);
-        };
+        all.push(Watched { diagrams, watch })?;
     }
     Ok(all)
 }

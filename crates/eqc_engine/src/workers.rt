@@ -425,9 +425,7 @@ pub(crate) fn check_in_large<R, P: Progress<R>>(
     requires known { IsKnown comparison.now.pair.now alike.now }
     ensures report { IfOk result (λ report. report_of report ≡ pair_report comparison.now.options.now.every comparison.now.pair.now) }
 {
-    let Ok(alike) = alike.clone() else {
-        return Err(Stop::Memory);
-    };
+    let alike = alike.clone()?;
     let nodes = largest_nodes(comparison.pair);
     check_first(comparison, alike, nodes, comparison.watch)
 }
@@ -451,9 +449,7 @@ pub(crate) fn check_by_team<R: Threads + Wait + Sync, P: Progress<R> + Sync>(
 {
     let Comparison { pair, options, .. } = *comparison;
     let needed = needed_options(pair, &alike.equal, options);
-    let Ok(again) = alike.clone() else {
-        return Err(Stop::Memory);
-    };
+    let again = alike.clone()?;
     let report = check_team(comparison, again, &needed, turns_for(options));
     if needed.workers == 1 || !is_full(&report) {
         return report;
@@ -476,9 +472,7 @@ pub(crate) fn check_by_one<R: Threads + Wait + Sync, P: Progress<R> + Sync>(
     requires known { IsKnown comparison.now.pair.now alike.now }
     ensures report { IfOk result (λ report. report_of report ≡ pair_report comparison.now.options.now.every comparison.now.pair.now) }
 {
-    let Ok(again) = alike.clone() else {
-        return Err(Stop::Memory);
-    };
+    let again = alike.clone()?;
     check_alone(comparison, again, alone_nodes(comparison.pair))
 }
 

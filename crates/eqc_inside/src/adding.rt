@@ -18,12 +18,13 @@ use crate::entering::{CHARACTERS, entered};
 use crate::inside::{Inside, NONE, Owned, literal_of};
 use crate::rounds::moved;
 use crate::searching::mark;
-use eqc_adders::{Limits, Shape, Sums, copy_shaped, has_adders, words_of};
+use eqc_adders::{Limits, Sums, has_adders};
 use eqc_build::Steps;
 use eqc_compare::{Alike, Progress, Stage, is_settled};
 use eqc_gates::needed_within;
 use eqc_graph::{Node, node_of};
 use eqc_netlist::Name;
+use eqc_numbers::{Shape, copy_shaped, words_of};
 use eqc_sweep::{Effort, Sweep};
 use std::alloc::{AllocError, Global};
 
@@ -109,7 +110,11 @@ fn names<'a>(alloc: Global, outputs: &'a [Name]) -> Result<Vec<&'a str>, AllocEr
 }
 
 /// Marks the outputs of words, of so many. Fails where memory is refused.
-fn of_words(alloc: Global, outputs: usize, words: &[Vec<usize>]) -> Result<Vec<bool>, AllocError>
+pub(crate) fn of_words(
+    alloc: Global,
+    outputs: usize,
+    words: &[Vec<usize>],
+) -> Result<Vec<bool>, AllocError>
     ensures { IfOk result (λ marks. length marks.items ≡ outputs) }
 {
     let mut marks = vec![in alloc; false; outputs]?;

@@ -19,18 +19,19 @@ ghost use Rattle.eqc_gates.specs.Entering.{AreClosed, AreLiterals};
 ghost use Rattle.eqc_compare.specs.Alike.{AreEqual as AreEqualOutputs, IsKnown};
 ghost use Rattle.eqc_inside.specs.Inside.{IsInside, TellEqual};
 
-use crate::adding::{Literals, MOST_FAILED, MOST_NODES, Meant, limits_in, literals_of};
+use crate::adding::{Literals, MOST_FAILED, MOST_NODES, Meant, limits_in, literals_of, of_words};
 use crate::entering::{CHARACTERS, entered};
 use crate::inside::{Inside, Owned, first_of_literal};
 use crate::rounds::{entry, open_literals};
-use eqc_adders::{
-    Limits, Lookalikes, are_equal_anew, are_equal_in_cases, are_shown_equal, find_lookalikes,
-    has_adders, is_made_alike,
-};
+use eqc_adders::{Limits, Lookalikes, has_adders, is_made_alike};
 use eqc_build::Steps;
 use eqc_compare::{Alike, Progress, Stage};
 use eqc_gates::needed_within;
 use eqc_graph::{Graph, Node, negated, node_of};
+use eqc_numbers::{
+    Words, are_equal_anew, are_equal_by_arrays, are_equal_in_cases, are_shown_equal,
+    find_lookalikes,
+};
 use eqc_sweep::{Effort, Sweep, below};
 use std::alloc::{AllocError, Global};
 
@@ -109,6 +110,9 @@ enum Kind {
     Long,
     /// Words of outputs, by way of products that are made anew, in larger graphs too.
     Anew,
+    /// Words of outputs that are sums of products, added up briefly or as arrays that are made
+    /// anew, in larger graphs too.
+    Arrays,
     /// Words of outputs, for each value of the inputs that choose what a design does, until the
     /// first one isn't, in a graph that isn't large.
     Cases,
@@ -147,6 +151,15 @@ impl Look {
         }
     }
 
+    /// A look for words of outputs that are sums of products and are shown equal by a brief look at
+    /// what they add up to, or since both add up to what an array does that is made anew.
+    pub fn by_arrays(conflicts: u64) -> Look {
+        Look {
+            kind: Kind::Arrays,
+            conflicts,
+        }
+    }
+
     /// A look for words of outputs that are equal for each value of the inputs that choose what a
     /// design does.
     pub fn in_cases(conflicts: u64) -> Look {
@@ -160,7 +173,7 @@ impl Look {
     fn is_of_outputs(self) -> bool {
         match self.kind {
             Kind::Short | Kind::Long => false,
-            Kind::Anew | Kind::Cases => true,
+            Kind::Anew | Kind::Arrays | Kind::Cases => true,
         }
     }
 
@@ -168,13 +181,13 @@ impl Look {
     fn count(self) -> u32 {
         match self.kind {
             Kind::Short | Kind::Long => LOOKS,
-            Kind::Anew | Kind::Cases => 1,
+            Kind::Anew | Kind::Arrays | Kind::Cases => 1,
         }
     }
 
     fn turns(self) -> u32 {
         match self.kind {
-            Kind::Short | Kind::Anew | Kind::Cases => 1,
+            Kind::Short | Kind::Anew | Kind::Arrays | Kind::Cases => 1,
             Kind::Long => TURNS,
         }
     }
@@ -182,14 +195,14 @@ impl Look {
     fn most_failed(self) -> u32 {
         match self.kind {
             Kind::Short | Kind::Cases => 1,
-            Kind::Long | Kind::Anew => MOST_FAILED,
+            Kind::Long | Kind::Anew | Kind::Arrays => MOST_FAILED,
         }
     }
 
     fn most_nodes(self) -> u32 {
         match self.kind {
             Kind::Short | Kind::Cases => FEW_NODES,
-            Kind::Long | Kind::Anew => MOST_NODES,
+            Kind::Long | Kind::Anew | Kind::Arrays => MOST_NODES,
         }
     }
 
@@ -204,7 +217,7 @@ impl Look {
                 work: limits.work / u64::from(PART),
                 ..limits
             },
-            Kind::Long | Kind::Anew | Kind::Cases => limits,
+            Kind::Long | Kind::Anew | Kind::Arrays | Kind::Cases => limits,
         }
     }
 }
@@ -226,14 +239,17 @@ fn is_shown(task: &Task<'_>, graph: &Graph, word: &Lookalikes) -> Result<bool, A
     ensures { IfOk result (λ is. IsTrue is → AreEqualWords graph.now word.now.firsts.items word.now.seconds.items) }
 {
     let Lookalikes { firsts, seconds } = word;
-    let limits = task.look.limits(graph.len());
+    let words = Words {
+        alloc: task.alloc,
+        firsts,
+        seconds,
+        limits: task.look.limits(graph.len()),
+    };
     match task.look.kind {
-        Kind::Anew => are_equal_anew(task.alloc, graph, firsts, seconds, limits),
-        Kind::Cases => are_equal_in_cases(task.alloc, graph, firsts, seconds, limits),
-        Kind::Short | Kind::Long => {
-            let turns = task.look.turns();
-            are_shown_equal(task.alloc, graph, firsts, seconds, limits, turns)
-        }
+        Kind::Anew => are_equal_anew(&words, graph),
+        Kind::Arrays => are_equal_by_arrays(&words, graph),
+        Kind::Cases => are_equal_in_cases(&words, graph),
+        Kind::Short | Kind::Long => are_shown_equal(&words, graph, task.look.turns()),
     }
 }
 
@@ -302,9 +318,14 @@ fn tried(
     if task.look.is_of_outputs() {
         return words_of_outputs(task, literals);
     }
-    let limits = task.look.limits(graph.len());
     let Literals { firsts, seconds } = literals_of(task.alloc, task.steps, literals, task.outputs)?;
-    find_lookalikes(task.alloc, graph, &firsts, &seconds, limits)
+    let netlists = Words {
+        alloc: task.alloc,
+        firsts: &firsts,
+        seconds: &seconds,
+        limits: task.look.limits(graph.len()),
+    };
+    find_lookalikes(&netlists, graph)
 }
 
 /// What stands for literals of steps since words of signals that the outputs depend on are shown
@@ -339,7 +360,11 @@ fn shown_below<R, P: Progress<R>>(
     ensures { IfOk result (λ found. IfSome found (λ shown. TellEqual task.now.steps.now.pair shown.items)) }
 {
     let count = task.steps.pair().first().outputs().len();
-    let wanted = vec![in task.alloc; true; count]?;
+    let wanted = if task.look.is_of_outputs() {
+        of_words(task.alloc, count, task.words)?
+    } else {
+        vec![in task.alloc; true; count]?
+    };
     let marks = needed_within(task.alloc, task.steps, &wanted, CHARACTERS)?;
     let mut plain = Owned {
         sweep: Sweep::new(task.alloc, Effort::none())?,
@@ -392,7 +417,7 @@ impl<'a> Inside<'a> {
         requires { AreEqualOutputs self.now marks.now }
     {
         match look.kind {
-            Kind::Anew | Kind::Cases => {
+            Kind::Anew | Kind::Arrays | Kind::Cases => {
                 Ok(self.sweep.graph().len() <= look.most_nodes() && has_adders(alloc, &self.sweep)?)
             }
             Kind::Short | Kind::Long => self.has_lookalikes(alloc, marks, look),
@@ -425,6 +450,9 @@ impl<'a> Inside<'a> {
             return Ok(false);
         }
         let words = self.open_words(alloc, &alike.equal, Meant::All)?;
+        if words.is_empty() && look.is_of_outputs() {
+            return Ok(false);
+        }
         let pair = self.steps.pair();
         let outputs = outputs_of(alloc, pair.first().outputs().len())?;
         let mut chosen = Vec::new(alloc);

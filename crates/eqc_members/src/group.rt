@@ -33,9 +33,7 @@ pub(crate) fn halves<D: References + Drop>(
         mut members,
     } = group;
     let keep = members.len() - members.len() / 2;
-    let Ok(others) = members.split_off(keep) else {
-        return Err(Stop::Memory);
-    };
+    let others = members.split_off(keep)?;
     let other = halve(words, &mut seat);
     let back = Group {
         worker: worker + keep as u32,

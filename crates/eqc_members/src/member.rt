@@ -28,10 +28,8 @@ pub(crate) fn begin<D: References + Drop>(
     ensures kept { IfOk result (λ m. AreKept D.entry pair.now (D.holding m.diagrams) m.kept.table) }
     ensures only { IfErr result (λ s. s ≡ Stop.Memory) }
 {
-    match StepDiagrams::for_each(alloc, pair) {
-        Ok(kept) => Ok(Member { diagrams, kept }),
-        Err(_) => Err(Stop::Memory),
-    }
+    let kept = StepDiagrams::for_each(alloc, pair)?;
+    Ok(Member { diagrams, kept })
 }
 
 /// The least assignment under which an output differs that is not marked. A member's outputs come

@@ -51,9 +51,7 @@ fn all_verdicts<R: Threads + Wait + Sync, D: Diagrams<R> + Send + Drop, G: Gate<
         outputs: pair.first().outputs().len() as u32,
         seats: members.len() as u32,
     };
-    let Ok((table, seat)) = open(alloc, key) else {
-        return Err(Stop::Memory);
-    };
+    let (table, seat) = open(alloc, key)?;
     let group = Group {
         worker: 0,
         seat,
@@ -106,19 +104,14 @@ fn told_by_members<R: Threads + Wait + Sync, D: Diagrams<R> + Send + Drop, G: Ga
     } = request;
     let outputs = pair.first().outputs().len() as u64;
     let draws = outputs.saturating_add(members.len() as u64);
-    let Ok(schedule) = Schedule::of(alloc, pair, every, alike) else {
-        return Err(Stop::Memory);
-    };
+    let schedule = Schedule::of(alloc, pair, every, alike)?;
     let task = Task {
         schedule,
         draws,
         patience,
     };
     let verdicts = all_verdicts(rt, alloc, pair, &task, members, gate)?;
-    match told_by(alloc, pair, every, verdicts) {
-        Ok(found) => Ok(found),
-        Err(_) => Err(Stop::Memory),
-    }
+    Ok(told_by(alloc, pair, every, verdicts)?)
 }
 
 /// Whether the assumption allows none, as the first member finds it.

@@ -1,11 +1,11 @@
 //! How rows of literals are added up: by arrays, trees and chains of adders.
 
+use crate::ends::{End, prefixed};
 use crate::netlist::{FALSE, Netlist};
 use crate::partial::{Partial, Row};
 use std::alloc::{AllocError, Global};
 
-/// How rows are added up. What is left of them, two of each column at most, goes into a chain of
-/// adders.
+/// How rows are added up, until two literals are left of each column at most.
 #[derive(Clone, Copy, PartialEq, Eq)]
 pub(crate) enum Tree {
     /// Row after row, each by a chain of adders.
@@ -135,6 +135,18 @@ impl Columns {
             word.push(self.take(column))?;
         }
         Ok(word)
+    }
+
+    /// The word of columns of up to two, with carries as an end has them.
+    fn ended(&mut self, netlist: &mut Netlist, end: End) -> Result<Vec<u32>, AllocError> {
+        if end == End::Chain || self.highest() > 2 {
+            return self.chain(netlist);
+        }
+        let mut both = Vec::with_capacity(self.alloc, self.len())?;
+        for column in 0..self.len() {
+            both.push((self.at(column, 0), self.at(column, 1)))?;
+        }
+        prefixed(self.alloc, netlist, &both, end)
     }
 
     /// Puts the literals of a row of others behind these.
@@ -300,6 +312,7 @@ pub(crate) fn added_up(
     netlist: &mut Netlist,
     partial: &Partial,
     tree: Tree,
+    end: End,
 ) -> Result<Vec<u32>, AllocError> {
     let mut columns = Columns::of_partial(alloc, partial)?;
     let mut left = match tree {
@@ -313,5 +326,5 @@ pub(crate) fn added_up(
             columns
         }
     };
-    left.chain(netlist)
+    left.ended(netlist, end)
 }

@@ -1,10 +1,13 @@
-//! Products of two words in a polynomial of degree two.
+//! Products of two words, and squares, in a polynomial of degree two.
 
 use crate::quadratic::{Quadratic, modulus_of};
 use std::alloc::{AllocError, Global};
 
 /// There are so many products at most.
 const MOST_PRODUCTS: usize = 16;
+
+/// A word of fewer bits isn't told from a product of two others by its square.
+const LEAST_BITS: usize = 3;
 
 /// A word of inputs by their places, the lowest first, whose last one counts as less than nothing
 /// where it is signed.
@@ -22,12 +25,21 @@ pub(crate) struct Product {
     pub(crate) lowest: u32,
 }
 
-/// How often a conjunction of two inputs counts that isn't in a product yet.
+/// What a polynomial adds up beside its constant: products, and inputs that count by themselves, by
+/// their places.
+#[derive(Drop)]
+pub(crate) struct Summands {
+    pub(crate) products: Vec<Product>,
+    pub(crate) singles: Vec<u128>,
+}
+
+/// How often a conjunction of two inputs counts that isn't in a product yet, and an input by itself.
 #[derive(Drop)]
 struct Rest {
     bits: usize,
     count: usize,
     times: Vec<u128>,
+    singles: Vec<u128>,
 }
 
 /// A column, and whether what counts there is taken away: none of what isn't a power of two.
@@ -49,6 +61,7 @@ impl Rest {
             bits: quadratic.bits,
             count,
             times: vec![in alloc; 0u128; count.saturating_mul(count)]?,
+            singles: quadratic.singles.clone()?,
         };
         for pair in &quadratic.pairs {
             rest.set(pair.one, pair.other, pair.times);
@@ -96,8 +109,7 @@ impl Rest {
 
     /// The word of inputs that count with this one in one column after the other, from the lowest
     /// on, the first input of each column.
-    fn word_with(&self, alloc: Global, one: usize) -> Result<(Vec<usize>, u32), AllocError> {
-        let mut places = Vec::new(alloc);
+    fn word_with(&self, alloc: Global, one: usize) -> Result<Vec<usize>, AllocError> {
         let mut all = Vec::new(alloc);
         for other in 0..self.count {
             if let Some((column, _)) = column_of(self.at(one, other), self.bits) {
@@ -105,11 +117,11 @@ impl Rest {
             }
         }
         all.sort_unstable();
-        let lowest = match all.first() {
+        let mut places = Vec::with_capacity(alloc, all.len())?;
+        let mut next = match all.first() {
             None => 0,
             Some(entry) => entry.0,
         };
-        let mut next = lowest;
         for entry in &all {
             let (column, place) = *entry;
             if column == next {
@@ -117,7 +129,7 @@ impl Rest {
                 next = next.saturating_add(1);
             }
         }
-        Ok((places, lowest))
+        Ok(places)
     }
 
     /// Whether the last bit of a word counts as less than nothing beside the first one of another.
@@ -174,8 +186,8 @@ impl Rest {
         let Some(other) = self.widest(Some(one)) else {
             return Ok(None);
         };
-        let (first, _) = self.word_with(alloc, other)?;
-        let (second, _) = self.word_with(alloc, one)?;
+        let first = self.word_with(alloc, other)?;
+        let second = self.word_with(alloc, one)?;
         let lowest = match (first.first(), second.first()) {
             (Some(low), Some(high)) => column_of(self.at(*low, *high), self.bits),
             _ => None,
@@ -202,6 +214,93 @@ impl Rest {
             None
         })
     }
+
+    /// The two inputs whose conjunction counts in the lowest column of those with this one or with
+    /// each other: the two lowest bits of a word, where it is a bit of that word's square.
+    fn lowest_two(&self, one: usize) -> Option<(usize, usize, u32)> {
+        let mut found = None;
+        let mut least = u32::MAX;
+        for x in 0..self.count {
+            for y in 0..x {
+                let is_near = [x, y].iter().all(|it| *it == one || self.at(*it, one) != 0);
+                if let Some((column, _)) = column_of(self.at(x, y), self.bits) {
+                    if is_near && column < least {
+                        least = column;
+                        found = Some((x, y, column));
+                    }
+                }
+            }
+        }
+        found
+    }
+
+    /// The word of which this input is the lowest bit, where it is in the square of that word.
+    fn word_from(&self, alloc: Global, zero: usize) -> Result<Factor, AllocError> {
+        let mut places = Vec::new(alloc);
+        places.push(zero)?;
+        places.extend_from_slice(&self.word_with(alloc, zero)?)?;
+        let is_signed = match places.last() {
+            None => false,
+            Some(last) => match column_of(self.at(zero, *last), self.bits) {
+                Some((_, is_negative)) => is_negative,
+                None => false,
+            },
+        };
+        Ok(Factor { places, is_signed })
+    }
+
+    /// Takes a square away, if all conjunctions of its bits are there: each counts twice, and each
+    /// bit once by itself.
+    fn take_square(&mut self, square: &Product) -> bool {
+        let places = &square.first.places;
+        if places.len() < LEAST_BITS {
+            return false;
+        }
+        for i in 0..places.len() {
+            for j in 0..i {
+                let wanted = self.wanted(square, i, j).wrapping_mul(2) & modulus_of(self.bits);
+                if self.at(places[i], places[j]) != wanted {
+                    return false;
+                }
+            }
+        }
+        for i in 0..places.len() {
+            for j in 0..i {
+                self.set(places[i], places[j], 0);
+                self.set(places[j], places[i], 0);
+            }
+            let wanted = self.wanted(square, i, i);
+            if let Some(times) = self.singles.get_mut(places[i]) {
+                *times = times.wrapping_sub(wanted) & modulus_of(self.bits);
+            }
+        }
+        true
+    }
+
+    /// The next square, which is taken away. Fails where memory is refused.
+    fn next_square(&mut self, alloc: Global) -> Result<Option<Product>, AllocError> {
+        let Some(one) = self.widest(None) else {
+            return Ok(None);
+        };
+        let Some((x, y, column)) = self.lowest_two(one) else {
+            return Ok(None);
+        };
+        // The lowest two bits count twice 2^1.
+        let Some(lowest) = column.checked_sub(2) else {
+            return Ok(None);
+        };
+        for zero in [x, y] {
+            let square = Product {
+                first: self.word_from(alloc, zero)?,
+                second: self.word_from(alloc, zero)?,
+                lowest,
+            };
+            if self.take_square(&square) {
+                return Ok(Some(square));
+            }
+        }
+        Ok(None)
+    }
 }
 
 impl Factor {
@@ -217,16 +316,21 @@ impl Product {
     }
 }
 
-/// The products of words that a polynomial adds up: none where it has other parts. Fails where
-/// memory is refused.
-pub(crate) fn products_of(
+/// The products of words that a polynomial adds up, and what is left beside these: none where it
+/// has other parts. Fails where memory is refused.
+pub(crate) fn summands_of(
     alloc: Global,
     quadratic: &Quadratic,
-) -> Result<Option<Vec<Product>>, AllocError> {
+) -> Result<Option<Summands>, AllocError> {
     let mut rest = Rest::new(alloc, quadratic)?;
     let mut products = Vec::new(alloc);
     for _ in 0..MOST_PRODUCTS {
-        let Some(product) = rest.next(alloc)? else {
+        let square = rest.next_square(alloc)?;
+        let next = match square {
+            Some(square) => Some(square),
+            None => rest.next(alloc)?,
+        };
+        let Some(product) = next else {
             break;
         };
         products.push(product)?;
@@ -234,6 +338,9 @@ pub(crate) fn products_of(
     Ok(if products.is_empty() || rest.widest(None).is_some() {
         None
     } else {
-        Some(products)
+        Some(Summands {
+            products,
+            singles: rest.singles,
+        })
     })
 }

@@ -7,13 +7,14 @@
 //!
 //! - `simulation`, the values of a graph's nodes for many assignments
 //! - `quadratic`, a word as a polynomial of degree two in its inputs, by simulation
-//! - `factors`, the products of words in it
+//! - `factors`, the products of words in it, and squares
 //! - `netlist`, graphs with adders; `partial`, the bits that a product adds up; `adding`, how they
-//!   are added up
-//! - `references`, of all architectures those that are most like two words
+//!   are added up, and `ends`, how carries come to the word
+//! - `references`, of all architectures those that are most like two words, and an array
 #![tactic(auto)]
 
 mod adding;
+mod ends;
 mod factors;
 mod netlist;
 mod partial;
@@ -21,4 +22,4 @@ mod quadratic;
 mod references;
 mod simulation;
 
-pub use references::{Reference, References, make_references};
+pub use references::{Made, Reference, References, make_array, make_references};

@@ -9,12 +9,14 @@ pub(crate) const FALSE: u32 = 0;
 
 pub(crate) const TRUE: u32 = 1;
 
-/// A graph, the sums of its adders, and all literals of these.
+/// A graph, the sums of its adders, all literals of these, and the spans of its tree of prefixes
+/// that don't go down to the first column.
 #[derive(Drop)]
 pub(crate) struct Netlist {
     graph: Graph,
     sums: Vec<u32>,
     ends: Vec<u32>,
+    spans: Vec<u32>,
 }
 
 impl Netlist {
@@ -24,6 +26,7 @@ impl Netlist {
             graph: Graph::new(alloc)?,
             sums: Vec::new(alloc),
             ends: Vec::new(alloc),
+            spans: Vec::new(alloc),
         })
     }
 
@@ -43,6 +46,19 @@ impl Netlist {
     /// What all adders that were made add up, their sums and their carries.
     pub(crate) fn ends(&self) -> &[u32] {
         &self.ends
+    }
+
+    /// Whether spans make carries and pass them on, where these aren't carries themselves.
+    pub(crate) fn spans(&self) -> &[u32] {
+        &self.spans
+    }
+
+    /// Notes a literal of a span, but for one that is always false. Fails where memory is refused.
+    pub(crate) fn note_span(&mut self, literal: u32) -> Result<(), AllocError> {
+        if literal != FALSE {
+            self.spans.push(literal)?;
+        }
+        Ok(())
     }
 
     /// Whether a literal's node is there.

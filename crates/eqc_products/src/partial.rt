@@ -2,12 +2,12 @@
 
 use crate::factors::{Factor, Product, column_of};
 use crate::netlist::{FALSE, Netlist, TRUE};
-use crate::quadratic::Quadratic;
+use crate::quadratic::modulus_of;
 use eqc_graph::{negated, negated_if};
 use std::alloc::{AllocError, Global};
 
 /// How the factor of a product is taken that makes its rows.
-#[derive(Clone, Copy)]
+#[derive(Clone, Copy, PartialEq, Eq)]
 pub(crate) enum Digits {
     /// Bit by bit.
     Plain,
@@ -25,7 +25,7 @@ pub(crate) enum Order {
     /// The first product or word, and then the others from the last one on: so a chain of sums
     /// comes out where each is merged into the next one (as yosys does it).
     Merged,
-    /// As they come, where each column has only what literals there are.
+    /// As they come, where each column's literals come one behind the other.
     Narrow,
 }
 
@@ -39,8 +39,6 @@ fn merged(k: usize, count: usize) -> usize {
 pub(crate) struct Row {
     /// Which product or word it is of.
     part: usize,
-    /// From here on it has something in each column, false or not.
-    from: usize,
     literals: Vec<u32>,
 }
 
@@ -49,7 +47,6 @@ impl Row {
     pub(crate) fn new(alloc: Global, bits: usize) -> Result<Row, AllocError> {
         Ok(Row {
             part: 0,
-            from: 0,
             literals: vec![in alloc; FALSE; bits]?,
         })
     }
@@ -58,7 +55,6 @@ impl Row {
     pub(crate) fn copied(&self) -> Result<Row, AllocError> {
         Ok(Row {
             part: self.part,
-            from: self.from,
             literals: self.literals.clone()?,
         })
     }
@@ -153,7 +149,7 @@ pub(crate) struct Partial {
     alloc: Global,
     pub(crate) bits: usize,
     pub(crate) rows: Vec<Row>,
-    /// Which product or word the rows are of that come now.
+    /// Which product or word the rows are of that come now, from 0 on.
     part: usize,
     order: Order,
     number: u128,
@@ -171,12 +167,12 @@ impl Partial {
         }
     }
 
-    /// A row without literals from a column on, of the product or word whose rows come now. Fails
-    /// where memory is refused, as all that follows does.
-    fn row(&self, from: usize) -> Result<Row, AllocError> {
+    /// A row without literals, of the product or word whose rows come now. Fails where memory is
+    /// refused, as all that follows does.
+    fn row(&self) -> Result<Row, AllocError> {
         let part = self.part;
         let row = Row::new(self.alloc, self.bits)?;
-        Ok(Row { part, from, ..row })
+        Ok(Row { part, ..row })
     }
 
     /// Puts the rows into an order.
@@ -220,7 +216,7 @@ impl Partial {
     ) -> Result<(), AllocError> {
         for i in 0..first.len() {
             let from = lowest.saturating_add(i);
-            let mut row = self.row(from)?;
+            let mut row = self.row()?;
             for j in 0..second.len() {
                 let column = from.saturating_add(j);
                 if column < self.bits {
@@ -245,7 +241,7 @@ impl Partial {
     ) -> Result<(), AllocError> {
         for i in 0..first.len() {
             let from = lowest.saturating_add(i);
-            let mut row = self.row(from)?;
+            let mut row = self.row()?;
             for column in from..self.bits {
                 let both = netlist.and(first.bit(i), second.bit(column - from))?;
                 row.put(column, negated_if(both, first.is_sign(i)));
@@ -266,7 +262,7 @@ impl Partial {
         digit: Digit,
         word: &Word,
     ) -> Result<(), AllocError> {
-        let mut row = self.row(lowest)?;
+        let mut row = self.row()?;
         for k in 0..word.len().saturating_add(1) {
             let single = netlist.and(digit.one, word.bit(k))?;
             let below = if k == 0 { FALSE } else { word.bit(k - 1) };
@@ -282,7 +278,7 @@ impl Partial {
             row.put(end, self.counted(end, digit.negative, true));
         }
         self.rows.push(row)?;
-        let mut more = self.row(lowest)?;
+        let mut more = self.row()?;
         more.put(lowest, digit.negative);
         self.rows.push(more)?;
         Ok(())
@@ -316,7 +312,6 @@ impl Partial {
         digits: Digits,
         is_swapped: bool,
     ) -> Result<(), AllocError> {
-        self.part = self.part.saturating_add(1);
         let (first, second) = if is_swapped {
             (&product.second, &product.first)
         } else {
@@ -326,10 +321,12 @@ impl Partial {
         let other = Word::of(self.alloc, inputs, second)?;
         let lowest = product.lowest as usize;
         match digits {
-            Digits::Plain => self.put_plain(netlist, lowest, &one, &other),
-            Digits::Extended => self.put_extended(netlist, lowest, &one, &other),
-            Digits::Recoded => self.put_recoded(netlist, lowest, &one, &other),
+            Digits::Plain => self.put_plain(netlist, lowest, &one, &other)?,
+            Digits::Extended => self.put_extended(netlist, lowest, &one, &other)?,
+            Digits::Recoded => self.put_recoded(netlist, lowest, &one, &other)?,
         }
+        self.part = self.part.saturating_add(1);
+        Ok(())
     }
 
     /// Puts a literal into the first of the rows from this one on in whose column there is none.
@@ -340,22 +337,21 @@ impl Partial {
                 return Ok(());
             }
         }
-        let mut row = self.row(self.bits)?;
+        let mut row = self.row()?;
         row.put(column, literal);
         self.rows.push(row)?;
         Ok(())
     }
 
-    /// Puts the inputs that count by themselves, in rows of their own.
+    /// Puts the inputs that count by themselves so often, in rows of their own.
     pub(crate) fn put_singles(
         &mut self,
         inputs: &[u32],
-        quadratic: &Quadratic,
+        singles: &[u128],
     ) -> Result<(), AllocError> {
-        self.part = self.part.saturating_add(1);
         let from = self.rows.len();
-        for place in 0..quadratic.singles.len().min(inputs.len()) {
-            let times = quadratic.singles[place];
+        for place in 0..singles.len().min(inputs.len()) {
+            let times = singles[place];
             if let Some((column, is_taken_away)) = column_of(times, self.bits) {
                 let column = column as usize;
                 let literal = self.counted(column, inputs[place], is_taken_away);
@@ -368,6 +364,7 @@ impl Partial {
                 }
             }
         }
+        self.part = self.part.saturating_add(1);
         Ok(())
     }
 
@@ -387,8 +384,7 @@ impl Partial {
 
     /// The rows in which each column's literals come one behind the other: first that of the number,
     /// and then what the rows have.
-    pub(crate) fn summands(&self) -> Result<Vec<Row>, AllocError> {
-        let is_narrow = self.order == Order::Narrow;
+    fn narrow_summands(&self) -> Result<Vec<Row>, AllocError> {
         let mut most = 0usize;
         let mut rows = Vec::with_capacity(self.alloc, self.rows.len())?;
         for _ in 0..self.rows.len().saturating_add(1) {
@@ -402,7 +398,7 @@ impl Partial {
             }
             for row in &self.rows {
                 let literal = row.at(column);
-                if literal != FALSE || (row.from <= column && !is_narrow) {
+                if literal != FALSE {
                     put(&mut rows, next, column, literal);
                     next = next.saturating_add(1);
                 }
@@ -410,6 +406,25 @@ impl Partial {
             most = most.max(next);
         }
         rows.truncate(most);
+        Ok(rows)
+    }
+
+    /// The rows that are added up whole: first that of the number, if it isn't 0.
+    pub(crate) fn summands(&self) -> Result<Vec<Row>, AllocError> {
+        if self.order == Order::Narrow {
+            return self.narrow_summands();
+        }
+        let mut rows = Vec::with_capacity(self.alloc, self.rows.len())?;
+        if self.number & modulus_of(self.bits) != 0 {
+            let mut row = self.row()?;
+            for column in 0..self.bits {
+                row.put(column, self.digit(column));
+            }
+            rows.push(row)?;
+        }
+        for row in &self.rows {
+            rows.push(row.copied()?)?;
+        }
         Ok(rows)
     }
 }

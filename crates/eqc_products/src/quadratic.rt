@@ -14,6 +14,20 @@ const LOOKS: usize = 40_000_000;
 /// So often all assignments at once are compared.
 const ROUNDS: u32 = 2;
 
+/// A polynomial of degree two in three sets of inputs has the difference of third order 0. Which of
+/// these eight assignments an input is true under, by three random bits: in each set for four, and
+/// for none or all where it is in no set.
+static CORNERS: [u8; 8] = [
+    0b1010_1010,
+    0b1010_1010,
+    0b1100_1100,
+    0b1100_1100,
+    0b1111_0000,
+    0b1111_0000,
+    0,
+    0b1111_1111,
+];
+
 /// Two places among the inputs, or one twice.
 #[derive(Clone, Copy)]
 struct Places {
@@ -35,6 +49,8 @@ pub(crate) struct Quadratic {
     pub(crate) bits: usize,
     /// The inputs' variables, in ascending order.
     pub(crate) variables: Vec<u32>,
+    /// By inputs, whether its complement counts in place of it.
+    pub(crate) negated: Vec<bool>,
     pub(crate) constant: u128,
     pub(crate) singles: Vec<u128>,
     pub(crate) pairs: Vec<Pair>,
@@ -125,13 +141,57 @@ fn through(
             }
         }
     }
+    let negated = vec![in alloc; false; variables.len()]?;
     Ok(Quadratic {
         bits,
         variables,
+        negated,
         constant,
         singles,
         pairs,
     })
+}
+
+/// For each input, whether it is true at the corners of 16 differences of third order.
+fn corners(alloc: Global, random: &mut Random, count: usize) -> Result<Vec<u128>, AllocError> {
+    let mut patterns = Vec::with_capacity(alloc, count)?;
+    for _ in 0..count {
+        let mut left = random.next();
+        let mut pattern = 0u128;
+        for _ in 0..ASSIGNMENTS / 8 {
+            let corner = CORNERS[(left % 8) as usize];
+            pattern = pattern << 8 | u128::from(corner);
+            left /= 8;
+        }
+        patterns.push(pattern)?;
+    }
+    Ok(patterns)
+}
+
+/// Whether a word may be a polynomial of degree two: differences of third order are 0 then.
+fn may_be_quadratic(
+    alloc: Global,
+    graph: &Graph,
+    word: &[u32],
+    variables: &[u32],
+) -> Result<bool, AllocError> {
+    let patterns = corners(alloc, &mut Random::numbered(3), variables.len())?;
+    let values = Values::of(alloc, graph, variables, &patterns)?;
+    for difference in 0..ASSIGNMENTS / 8 {
+        let mut sum = 0u128;
+        for corner in 0..8usize {
+            let number = values.number(word, difference * 8 + corner);
+            sum = if corner.count_ones() % 2 == 0 {
+                sum.wrapping_add(number)
+            } else {
+                sum.wrapping_sub(number)
+            };
+        }
+        if sum & modulus_of(word.len()) != 0 {
+            return Ok(false);
+        }
+    }
+    Ok(true)
 }
 
 impl Quadratic {
@@ -148,6 +208,9 @@ impl Quadratic {
             graph.len() as usize,
         );
         if count > MOST_INPUTS || looks > LOOKS || word.len() > 128 {
+            return Ok(None);
+        }
+        if !may_be_quadratic(alloc, graph, word, &variables)? {
             return Ok(None);
         }
         let places = all_places(alloc, count)?;
@@ -196,5 +259,59 @@ impl Quadratic {
             }
         }
         Ok(true)
+    }
+
+    /// How many ones there are in what inputs count by themselves, or in what they take away.
+    fn weight(&self) -> u32 {
+        let mut weight = 0u32;
+        for times in &self.singles {
+            let less = 0u128.wrapping_sub(*times) & modulus_of(self.bits);
+            weight = weight.saturating_add(times.count_ones().min(less.count_ones()));
+        }
+        weight
+    }
+
+    /// So often more an input counts by itself, if there is one.
+    fn count_single(&mut self, place: usize, times: u128) {
+        let modulus = modulus_of(self.bits);
+        if let Some(single) = self.singles.get_mut(place) {
+            *single = single.wrapping_add(times) & modulus;
+        }
+    }
+
+    /// Takes an input's complement in place of it, or the input again.
+    fn turn(&mut self, place: usize) {
+        let modulus = modulus_of(self.bits);
+        let single = self.singles.get(place).copied().unwrap_or(0);
+        self.constant = self.constant.wrapping_add(single) & modulus;
+        self.count_single(place, 0u128.wrapping_sub(single.wrapping_mul(2)));
+        for k in 0..self.pairs.len() {
+            let Some(Pair { one, other, times }) = self.pairs.get(k).copied() else {
+                continue;
+            };
+            if one != place && other != place {
+                continue;
+            }
+            self.count_single(if one == place { other } else { one }, times);
+            if let Some(pair) = self.pairs.get_mut(k) {
+                pair.times = 0u128.wrapping_sub(times) & modulus;
+            }
+        }
+        if let Some(is_negated) = self.negated.get_mut(place) {
+            *is_negated = !*is_negated;
+        }
+    }
+
+    /// Takes complements of inputs where less counts by itself then: of bits of a factor, say, of
+    /// which a netlist has the complement.
+    pub(crate) fn turned(mut self) -> Quadratic {
+        for place in 0..self.variables.len() {
+            let before = self.weight();
+            self.turn(place);
+            if self.weight() >= before {
+                self.turn(place);
+            }
+        }
+        self
     }
 }

@@ -1,14 +1,19 @@
 //! Netlists made anew in the architectures that are most like two words.
 
 use crate::adding::{Tree, added_up};
-use crate::factors::{Product, products_of};
+use crate::ends::{End, PREFIXES};
+use crate::factors::{Summands, summands_of};
 use crate::netlist::Netlist;
 use crate::partial::{Digits, Order, Partial};
 use crate::quadratic::Quadratic;
 use crate::simulation::{Values, random_patterns};
-use eqc_graph::Graph;
+use eqc_graph::{Graph, negated_if};
 use eqc_sweep::{Random, below};
 use std::alloc::{AllocError, Global};
+
+/// So many of a thousand spans of a tree of prefixes are among what a word is made of at least, if
+/// it is taken to end with it.
+const ENDS_SO: u32 = 300;
 
 /// An architecture of a product: which digits of which factor make rows, and how these are added
 /// up.
@@ -20,6 +25,7 @@ struct Architecture {
     are_singles_first: bool,
     order: Order,
     tree: Tree,
+    end: End,
 }
 
 /// How sums of plain rows are made, and of recoded ones.
@@ -45,14 +51,31 @@ const FIRST: Architecture = Architecture {
     are_singles_first: false,
     order: Order::Ascending,
     tree: Tree::Threes,
+    end: End::Chain,
+};
+
+/// An array of plain rows.
+const ARRAY: Architecture = Architecture {
+    digits: Digits::Plain,
+    is_swapped: false,
+    are_singles_first: false,
+    order: Order::Ascending,
+    tree: Tree::Array,
+    end: End::Chain,
 };
 
 /// A netlist that adds up a sum of products: a graph of its own, and its word of literals there,
 /// the lowest first.
 #[derive(Drop)]
-pub struct Reference {
+pub struct Made {
     pub graph: Graph,
     pub word: Vec<u32>,
+}
+
+/// A netlist made anew for a word.
+#[derive(Drop)]
+pub struct Reference {
+    pub made: Made,
     /// How many of a thousand sums of its adders are among what the word is made of that it is for.
     pub likeness: u32,
     /// How many of a thousand literals of its adders are.
@@ -71,7 +94,7 @@ pub struct References {
 struct Task<'a> {
     alloc: Global,
     quadratic: &'a Quadratic,
-    products: &'a [Product],
+    summands: &'a Summands,
 }
 
 /// The values of the nodes below a word, each as that of the literal which is false under the first
@@ -80,6 +103,16 @@ struct Task<'a> {
 struct Seen {
     patterns: Vec<u128>,
     values: Vec<u128>,
+}
+
+/// The architecture that is most like a word of those that were looked at.
+#[derive(Clone, Copy)]
+struct Best {
+    architecture: Architecture,
+    /// How many of a thousand sums of its adders are among what the word is made of.
+    likeness: u32,
+    /// How many of a thousand literals of its adders are.
+    whole: u32,
 }
 
 /// A value as that of the literal which is false under the first assignment.
@@ -120,35 +153,58 @@ impl Seen {
         (found.saturating_mul(1_000) / all).min(1_000) as u32
     }
 
-    /// How many of a thousand sums of a netlist are among them, and how many of all literals of its
-    /// adders. Fails where memory is refused.
-    fn likeness(
+    /// Takes an architecture as the best one, if more of the sums of its netlist are among them.
+    /// Fails where memory is refused.
+    fn compare(
         &self,
-        alloc: Global,
+        task: &Task<'_>,
         netlist: &Netlist,
-        variables: &[u32],
-    ) -> Result<(u32, u32), AllocError> {
-        let values = Values::of(alloc, netlist.graph(), variables, &self.patterns)?;
-        Ok((
-            self.share(&values, netlist.sums()),
-            self.share(&values, netlist.ends()),
-        ))
+        architecture: Architecture,
+        best: &mut Best,
+    ) -> Result<(), AllocError> {
+        let values = task.values(netlist, &self.patterns)?;
+        let likeness = self.share(&values, netlist.sums());
+        if likeness > best.likeness {
+            *best = Best {
+                architecture,
+                likeness,
+                whole: self.share(&values, netlist.ends()),
+            };
+        }
+        Ok(())
     }
 }
 
 impl<'a> Task<'a> {
+    /// The values of a netlist's nodes where the inputs have these.
+    fn values(&self, netlist: &Netlist, patterns: &[u128]) -> Result<Values, AllocError> {
+        Values::of(
+            self.alloc,
+            netlist.graph(),
+            &self.quadratic.variables,
+            patterns,
+        )
+    }
+
     /// The netlist of an architecture, with its word.
     fn made(&self, architecture: Architecture) -> Result<(Netlist, Vec<u32>), AllocError> {
         let mut netlist = Netlist::new(self.alloc)?;
         let mut inputs = Vec::with_capacity(self.alloc, self.quadratic.variables.len())?;
-        for variable in &self.quadratic.variables {
-            inputs.push(netlist.input(*variable)?)?;
+        let Quadratic {
+            variables,
+            negated,
+            ..
+        } = self.quadratic;
+        for place in 0..variables.len() {
+            let input = netlist.input(variables[place])?;
+            let is_negated = negated.get(place).copied().unwrap_or(false);
+            inputs.push(negated_if(input, is_negated))?;
         }
         let mut partial = Partial::new(self.alloc, self.quadratic.bits);
         if architecture.are_singles_first {
-            partial.put_singles(&inputs, self.quadratic)?;
+            partial.put_singles(&inputs, &self.summands.singles)?;
         }
-        for product in self.products {
+        for product in &self.summands.products {
             partial.put_product(
                 &mut netlist,
                 &inputs,
@@ -158,30 +214,45 @@ impl<'a> Task<'a> {
             )?;
         }
         if !architecture.are_singles_first {
-            partial.put_singles(&inputs, self.quadratic)?;
+            partial.put_singles(&inputs, &self.summands.singles)?;
         }
         partial.order(architecture.order)?;
         partial.put_number(self.quadratic.constant);
-        let word = added_up(self.alloc, &mut netlist, &partial, architecture.tree)?;
+        let word = added_up(
+            self.alloc,
+            &mut netlist,
+            &partial,
+            architecture.tree,
+            architecture.end,
+        )?;
         Ok((netlist, word))
     }
 
-    /// All architectures that there may be.
+    /// All architectures that there may be, with chains at their ends: in another order, or with
+    /// single inputs first, only where that makes a difference.
     fn architectures(&self) -> Result<Vec<Architecture>, AllocError> {
-        let has_singles = self.quadratic.singles.iter().any(|times| *times != 0);
+        let has_singles = self.summands.singles.iter().any(|times| *times != 0);
+        let products = &self.summands.products;
+        let has_parts = products.len() > 1 || has_singles;
+        let has_signs = products
+            .iter()
+            .any(|it| it.first.is_signed || it.second.is_signed);
         let mut all = Vec::new(self.alloc);
         for (digits, tree) in TREES {
             for is_swapped in [false, true] {
                 for are_singles_first in [false, true] {
                     for order in [Order::Ascending, Order::Merged, Order::Narrow] {
                         let is_usual = order == Order::Ascending || *tree == Tree::Threes;
-                        if is_usual && (has_singles || !are_singles_first) {
+                        let is_other = (order != Order::Merged || has_parts)
+                            && (*digits != Digits::Extended || has_signs);
+                        if is_usual && is_other && (has_singles || !are_singles_first) {
                             all.push(Architecture {
                                 digits: *digits,
                                 is_swapped,
                                 are_singles_first,
                                 order,
                                 tree: *tree,
+                                end: End::Chain,
                             })?;
                         }
                     }
@@ -191,27 +262,81 @@ impl<'a> Task<'a> {
         Ok(all)
     }
 
-    /// The netlist that is most like a word of a graph.
-    fn reference(&self, graph: &Graph, word: &[u32]) -> Result<Reference, AllocError> {
-        let seen = Seen::of(self.alloc, graph, word, &self.quadratic.variables)?;
-        let mut best = FIRST;
-        let mut most = (0u32, 0u32);
+    /// The architectures that are most like two words, in turn, by the sums of adders.
+    fn best(&self, seen: [&Seen; 2]) -> Result<[Best; 2], AllocError> {
+        let none = Best {
+            architecture: FIRST,
+            likeness: 0,
+            whole: 0,
+        };
+        let mut first = none;
+        let mut second = none;
         for architecture in &self.architectures()? {
             let (netlist, _) = self.made(*architecture)?;
-            let likeness = seen.likeness(self.alloc, &netlist, &self.quadratic.variables)?;
-            if likeness.0 > most.0 {
-                most = likeness;
-                best = *architecture;
+            seen[0].compare(self, &netlist, *architecture, &mut first)?;
+            seen[1].compare(self, &netlist, *architecture, &mut second)?;
+        }
+        Ok([first, second])
+    }
+
+    /// The same architecture with the tree of prefixes at its end of which a word has most spans, if
+    /// these are enough.
+    fn with_end(
+        &self,
+        seen: &Seen,
+        architecture: Architecture,
+    ) -> Result<Architecture, AllocError> {
+        let mut most = ENDS_SO;
+        let mut found = architecture;
+        for end in PREFIXES {
+            let other = Architecture {
+                end: *end,
+                ..architecture
+            };
+            let (netlist, _) = self.made(other)?;
+            let share = seen.share(&self.values(&netlist, &seen.patterns)?, netlist.spans());
+            if share > most {
+                most = share;
+                found = other;
             }
         }
-        let (netlist, word) = self.made(best)?;
+        Ok(found)
+    }
+
+    /// The netlist that is most like a word.
+    fn reference(&self, seen: &Seen, best: Best) -> Result<Reference, AllocError> {
+        let architecture = self.with_end(seen, best.architecture)?;
+        let (netlist, word) = self.made(architecture)?;
         Ok(Reference {
-            graph: netlist.into_graph(),
-            word,
-            likeness: most.0,
-            whole: most.1,
+            made: Made {
+                graph: netlist.into_graph(),
+                word,
+            },
+            likeness: best.likeness,
+            whole: best.whole,
         })
     }
+}
+
+/// The sum of products of two inputs that two words of a graph are, and its parts: none where they
+/// aren't the same one. Fails where memory is refused.
+fn sum_of(
+    alloc: Global,
+    graph: &Graph,
+    first: &[u32],
+    second: &[u32],
+) -> Result<Option<(Quadratic, Summands)>, AllocError> {
+    let Some(quadratic) = Quadratic::of(alloc, graph, first)? else {
+        return Ok(None);
+    };
+    if first.len() != second.len() || !quadratic.is_same(alloc, graph, second)? {
+        return Ok(None);
+    }
+    let quadratic = quadratic.turned();
+    let Some(summands) = summands_of(alloc, &quadratic)? else {
+        return Ok(None);
+    };
+    Ok(Some((quadratic, summands)))
 }
 
 /// Netlists made anew for two words of a graph, the lowest literal first, each in the architecture
@@ -223,22 +348,44 @@ pub fn make_references(
     first: &[u32],
     second: &[u32],
 ) -> Result<Option<References>, AllocError> {
-    let Some(quadratic) = Quadratic::of(alloc, graph, first)? else {
-        return Ok(None);
-    };
-    if first.len() != second.len() || !quadratic.is_same(alloc, graph, second)? {
-        return Ok(None);
-    }
-    let Some(products) = products_of(alloc, &quadratic)? else {
+    let Some((quadratic, summands)) = sum_of(alloc, graph, first, second)? else {
         return Ok(None);
     };
     let task = Task {
         alloc,
         quadratic: &quadratic,
-        products: &products,
+        summands: &summands,
     };
+    let one = Seen::of(alloc, graph, first, &quadratic.variables)?;
+    let other = Seen::of(alloc, graph, second, &quadratic.variables)?;
+    let [best, best_other] = task.best([&one, &other])?;
     Ok(Some(References {
-        first: task.reference(graph, first)?,
-        second: task.reference(graph, second)?,
+        first: task.reference(&one, best)?,
+        second: task.reference(&other, best_other)?,
+    }))
+}
+
+/// An array made anew for two words of a graph, the lowest literal first, in whatever architectures
+/// these are: row after row, each added by a chain of carries, since such a netlist is added up
+/// most easily. None where the words aren't the same sum of products of two inputs. That it stands
+/// for what they do isn't promised. Fails where memory is refused.
+pub fn make_array(
+    alloc: Global,
+    graph: &Graph,
+    first: &[u32],
+    second: &[u32],
+) -> Result<Option<Made>, AllocError> {
+    let Some((quadratic, summands)) = sum_of(alloc, graph, first, second)? else {
+        return Ok(None);
+    };
+    let task = Task {
+        alloc,
+        quadratic: &quadratic,
+        summands: &summands,
+    };
+    let (netlist, word) = task.made(ARRAY)?;
+    Ok(Some(Made {
+        graph: netlist.into_graph(),
+        word,
     }))
 }

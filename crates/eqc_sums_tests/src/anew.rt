@@ -1,39 +1,76 @@
-//! Which products that a mapping took apart are shown equal by way of products that are made anew.
+//! Which products are shown equal by way of products that are made anew, as those that a mapping took
+//! apart.
 
 use crate::ends::same;
 use crate::multipliers::{Architecture, Factors, product};
-use eqc_adders::{Limits, are_equal_anew};
+use eqc_adders::Limits;
+use eqc_numbers::{Words, are_equal_anew, are_equal_by_arrays};
 use eqc_sweep::{Effort, Sweep};
 use std::alloc::{AllocError, Global};
 
-/// Whether two products of words of so many bits are shown equal.
+/// What is made anew: products in the architectures that two are most like, or an array for both.
+#[derive(Clone, Copy)]
+enum Way {
+    Anew,
+    Arrays,
+}
+
+/// Whether two products of factors are shown equal, the second one of which may have an adder with
+/// another carry.
 fn shown(
     alloc: Global,
-    width: u32,
+    factors: Factors,
     first: Architecture,
     second: Architecture,
     fault: usize,
+    way: Way,
 ) -> Result<bool, AllocError> {
     let mut sweep = Sweep::new(alloc, Effort::none())?;
-    let p = product(alloc, &mut sweep, Factors::Two(width), first, 0)?;
-    let q = product(alloc, &mut sweep, Factors::Two(width), second, fault)?;
-    are_equal_anew(alloc, sweep.graph(), &p, &q, Limits::of(100_000))
+    let p = product(alloc, &mut sweep, factors, first, 0)?;
+    let q = product(alloc, &mut sweep, factors, second, fault)?;
+    let words = Words {
+        alloc,
+        firsts: &p,
+        seconds: &q,
+        limits: Limits::of(100_000),
+    };
+    match way {
+        Way::Anew => are_equal_anew(&words, sweep.graph()),
+        Way::Arrays => are_equal_by_arrays(&words, sweep.graph()),
+    }
 }
 
-/// Products, the width of their factors, their architectures, an adder with another carry, and
-/// whether they are shown equal. Where both are as they were made none is made anew.
+/// Products, their factors, their architectures, an adder with another carry, and whether they are
+/// shown equal. Where both are as they were made none is made anew.
 #[rattlefmt::skip]
-static PRODUCTS: &[(&str, u32, Architecture, Architecture, usize, bool)] = &[
-    ("8 bits, mapped, against rows", 8, Architecture::Mapped, Architecture::Array, 0, true),
-    ("8 bits, recoded, against mapped", 8, Architecture::Booth, Architecture::Mapped, 0, true),
-    ("6 bits, mapped, a wrong carry", 6, Architecture::Mapped, Architecture::Array, 16, false),
-    ("6 bits, as they were made", 6, Architecture::Columns, Architecture::Array, 0, false),
+static PRODUCTS: &[(&str, Factors, Architecture, Architecture, usize, bool)] = &[
+    ("8 bits, mapped, against rows", Factors::Two(8), Architecture::Mapped, Architecture::Array, 0, true),
+    ("8 bits, recoded, against mapped", Factors::Two(8), Architecture::Booth, Architecture::Mapped, 0, true),
+    ("6 bits, mapped, a wrong carry", Factors::Two(6), Architecture::Mapped, Architecture::Array, 16, false),
+    ("6 bits, as they were made", Factors::Two(6), Architecture::Columns, Architecture::Array, 0, false),
 ];
 
 #[test]
 fn mapped_products_are_shown_equal(rt: HostRuntime) -> Result<(), AllocError> {
-    for (case, width, first, second, fault, is_shown) in PRODUCTS {
-        let found = shown(rt.alloc(), *width, *first, *second, *fault)?;
+    for (case, factors, first, second, fault, is_shown) in PRODUCTS {
+        let found = shown(rt.alloc(), *factors, *first, *second, *fault, Way::Anew)?;
+        same(&rt, found, *is_shown, *case);
+    }
+    Ok(())
+}
+
+/// The same of products that are each compared with an array.
+#[rattlefmt::skip]
+static ARRAYS: &[(&str, Factors, Architecture, Architecture, usize, bool)] = &[
+    ("6 bits, recoded, against columns", Factors::Two(6), Architecture::Booth, Architecture::Columns, 0, true),
+    ("6 bits, a wrong carry", Factors::Two(6), Architecture::Columns, Architecture::Array, 16, false),
+    ("6 bits, of words that are chosen", Factors::Chosen(6), Architecture::Columns, Architecture::Booth, 0, false),
+];
+
+#[test]
+fn products_are_compared_with_arrays(rt: HostRuntime) -> Result<(), AllocError> {
+    for (case, factors, first, second, fault, is_shown) in ARRAYS {
+        let found = shown(rt.alloc(), *factors, *first, *second, *fault, Way::Arrays)?;
         same(&rt, found, *is_shown, *case);
     }
     Ok(())

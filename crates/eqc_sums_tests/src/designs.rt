@@ -2,8 +2,9 @@
 
 use crate::ends::same;
 use crate::multipliers::{Architecture, Factors, chosen, product};
-use eqc_adders::{Limits, are_equal_in_cases, are_shown_equal, find_lookalikes};
+use eqc_adders::Limits;
 use eqc_graph::Graph;
+use eqc_numbers::{Words, are_equal_in_cases, are_shown_equal, find_lookalikes};
 use eqc_sweep::{Effort, Sweep};
 use std::alloc::{AllocError, Global};
 
@@ -38,13 +39,22 @@ fn designed(
     Ok(word)
 }
 
+/// Two words, with the limits of a whole run.
+fn words<'a>(alloc: Global, firsts: &'a [u32], seconds: &'a [u32]) -> Words<'a> {
+    Words {
+        alloc,
+        firsts,
+        seconds,
+        limits: Limits::of(100_000),
+    }
+}
+
 /// How many literals of words inside are shown equal.
 fn inside(alloc: Global, graph: &Graph, p: &[u32], q: &[u32]) -> Result<usize, AllocError> {
-    let limits = Limits::of(100_000);
-    let words = find_lookalikes(alloc, graph, p, q, limits)?;
+    let found = find_lookalikes(&words(alloc, p, q), graph)?;
     let mut count = 0usize;
-    for word in &words {
-        if are_shown_equal(alloc, graph, &word.firsts, &word.seconds, limits, 1)? {
+    for word in &found {
+        if are_shown_equal(&words(alloc, &word.firsts, &word.seconds), graph, 1)? {
             count = count.wrapping_add(word.firsts.len());
         }
     }
@@ -62,7 +72,7 @@ fn compared(
     let mut sweep = Sweep::new(alloc, Effort::none())?;
     let p = designed(alloc, &mut sweep, width, first, 0)?;
     let q = designed(alloc, &mut sweep, width, second, fault)?;
-    let is_equal = are_equal_in_cases(alloc, sweep.graph(), &p, &q, Limits::of(100_000))?;
+    let is_equal = are_equal_in_cases(&words(alloc, &p, &q), sweep.graph())?;
     Ok((
         is_equal,
         inside(alloc, sweep.graph(), &p, &q)? > width as usize,

@@ -305,14 +305,57 @@ fn inputs(
     Ok(word)
 }
 
-/// What is multiplied: two words of inputs of so many bits, or one by itself.
+/// A word of so many bits, each of which is one of two inputs by another input.
+fn chosen_word(
+    alloc: Global,
+    sweep: &mut Sweep,
+    width: u32,
+    first: u32,
+) -> Result<Vec<u32>, AllocError> {
+    let by = sweep.input(CHOICE)?;
+    let mut word = inputs(alloc, sweep, width, first)?;
+    let others = inputs(alloc, sweep, width, first.wrapping_add(width))?;
+    for k in 0..word.len() {
+        word[k] = chosen(sweep, by, word[k], at(others.as_slice(), k))?;
+    }
+    Ok(word)
+}
+
+/// The input that chooses words.
+const CHOICE: u32 = 900;
+
+/// What is multiplied: two words of so many bits, each of inputs or of two words of these by another
+/// input, or one by itself.
 #[derive(Clone, Copy)]
 pub(crate) enum Factors {
     Two(u32),
+    Chosen(u32),
     Same(u32),
 }
 
-/// The product of two words of inputs, or the square of one.
+/// The words that are multiplied.
+fn words(
+    alloc: Global,
+    sweep: &mut Sweep,
+    factors: Factors,
+) -> Result<(Vec<u32>, Vec<u32>), AllocError> {
+    Ok(match factors {
+        Factors::Two(width) => {
+            let a = inputs(alloc, sweep, width, 0)?;
+            (a, inputs(alloc, sweep, width, width)?)
+        }
+        Factors::Chosen(width) => {
+            let a = chosen_word(alloc, sweep, width, 0)?;
+            (a, chosen_word(alloc, sweep, width, width.wrapping_mul(2))?)
+        }
+        Factors::Same(width) => {
+            let a = inputs(alloc, sweep, width, 0)?;
+            (a, inputs(alloc, sweep, width, 0)?)
+        }
+    })
+}
+
+/// The product of two words, or the square of one.
 pub(crate) fn product(
     alloc: Global,
     sweep: &mut Sweep,
@@ -320,12 +363,7 @@ pub(crate) fn product(
     architecture: Architecture,
     fault: usize,
 ) -> Result<Vec<u32>, AllocError> {
-    let (width, first) = match factors {
-        Factors::Two(width) => (width, width),
-        Factors::Same(width) => (width, 0),
-    };
-    let a = inputs(alloc, sweep, width, 0)?;
-    let b = inputs(alloc, sweep, width, first)?;
+    let (a, b) = words(alloc, sweep, factors)?;
     match architecture {
         Architecture::Array => {
             let all = partial(alloc, sweep, a.as_slice(), b.as_slice())?;

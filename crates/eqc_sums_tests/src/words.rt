@@ -2,8 +2,9 @@
 
 use crate::ends::same;
 use crate::multipliers::{Architecture, Factors, and, product, xor};
-use eqc_adders::{Limits, Shape, Sums, copy_shaped, has_adders, words_of};
+use eqc_adders::{Limits, Sums, has_adders};
 use eqc_graph::negated;
+use eqc_numbers::{Shape, copy_shaped, words_of};
 use eqc_sweep::{Effort, Sweep, copied};
 use std::alloc::{AllocError, Global};
 

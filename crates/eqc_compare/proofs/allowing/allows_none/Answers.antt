@@ -15,9 +15,9 @@ plan_below-requires g c =
           (assumed_root_within c.each-steps.result c.len-count.ensures.lawful);
     }
 
-pub returns-in-Ok-clause-none : goal.returns-in-Ok-clause-none
-returns-in-Ok-clause-none g c =
+pub returns-clause-none : goal.returns-clause-none
+returns-clause-none g c =
     let lawful = c.len-count.ensures.lawful in
-    let never = rw c.in-Ok.ensures.steps at c.is_never_built.ensures.never in
+    let never = rw c.in_ok-plan.ensures.steps at c.is_never_built.ensures.never in
     rw c.each-steps.ensures.pair at (never_told c.each-steps.result c.in-Some.root
     c.is_never_built.result lawful c.in-Some.ensures never)

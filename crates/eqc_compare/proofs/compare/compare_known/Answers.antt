@@ -24,36 +24,36 @@ returns-then-branch-clause-found g c = vacuous_outcome c.args.pair.now c.args.ev
 
 pub compare_in_turn-found-requires-clause-kept : goal.compare_in_turn-found-requires-clause-kept
 compare_in_turn-found-requires-clause-kept g c =
-    rw c.in-Ok.ensures.schedule.pair
-    (none_kept g.D.References.entry c.args.pair.now _ c.in-Ok-for_each.kept.table
+    rw c.in_ok-schedule.ensures.schedule.pair
+    (none_kept g.D.References.entry c.args.pair.now _ c.in_ok-kept.kept.table
     (omega (arith, c.requires.variables, c.allows_none.ensures.kept.variables))
-    c.in-Ok-for_each.ensures.size c.in-Ok-for_each.ensures.none)
+    c.in_ok-kept.ensures.size c.in_ok-kept.ensures.none)
 
 pub give_back-requires : goal.give_back-requires
 give_back-requires g c =
     let entry = g.D.References.entry in
     let kept =
-    none_kept entry c.args.pair.now _ c.in-Ok-for_each.kept.table
+    none_kept entry c.args.pair.now _ c.in_ok-kept.kept.table
     (omega (arith, c.requires.variables, c.allows_none.ensures.kept.variables))
-    c.in-Ok-for_each.ensures.size c.in-Ok-for_each.ensures.none in
-    (moved_kept entry c.args.pair.now _ _ c.in-Ok-for_each.kept.table _ kept
-    (rw c.in-Ok.ensures.schedule.pair at c.compare_in_turn-found.ensures.moves)).owned
+    c.in_ok-kept.ensures.size c.in_ok-kept.ensures.none in
+    (moved_kept entry c.args.pair.now _ _ c.in_ok-kept.kept.table _ kept
+    (rw c.in_ok-schedule.ensures.schedule.pair at c.compare_in_turn-found.ensures.moves)).owned
 
 pub returns-in_err-found-clause-kept : goal.returns-in_err-found-clause-kept
 returns-in_err-found-clause-kept g c =
-    kept_in_turn g.D.References.entry _ _ _ _ c.in-Ok-for_each.kept.table _
-    c.allows_none.ensures.kept c.in-Ok-for_each.ensures.none
+    kept_in_turn g.D.References.entry _ _ _ _ c.in_ok-kept.kept.table _
+    c.allows_none.ensures.kept c.in_ok-kept.ensures.none
     c.compare_in_turn-found.ensures.moves.moves c.give_back.ensures
 
 pub returns-clause-found : goal.returns-clause-found
 returns-clause-found g c =
     compared_outcome c.args.pair.now c.args.every c.in_ok-allows_none.field-0 c.in_ok-found.field-0
     c.in_ok-allows_none.ensures.none
-    c.if-branch.false (rw (c.in-Ok.ensures.schedule.pair, c.in-Ok.ensures.every) at
+    c.if-branch.false (rw (c.in_ok-schedule.ensures.schedule.pair, c.in_ok-schedule.ensures.every) at
     c.in_ok-found.ensures.found)
 
 pub returns-clause-kept : goal.returns-clause-kept
 returns-clause-kept g c =
-    kept_in_turn g.D.References.entry _ _ _ _ c.in-Ok-for_each.kept.table _
-    c.allows_none.ensures.kept c.in-Ok-for_each.ensures.none
+    kept_in_turn g.D.References.entry _ _ _ _ c.in_ok-kept.kept.table _
+    c.allows_none.ensures.kept c.in_ok-kept.ensures.none
     c.compare_in_turn-found.ensures.moves.moves c.give_back.ensures

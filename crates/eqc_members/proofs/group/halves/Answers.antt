@@ -8,7 +8,7 @@ returns g c =
     let h = c.requires.seated in
     let mine = c.halve-other.ensures.kept in
     let theirs = c.halve-other.ensures.given in
-    let split = c.in-Ok.ensures in
+    let split = c.in_ok-others.ensures in
     let kept = ap (λ (v : View). v.seats) mine.1 in
     let given = ap (λ (v : View). v.seats) theirs.1 in
     record {

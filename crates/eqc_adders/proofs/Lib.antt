@@ -1,3 +1,0 @@
-pub mod ChainLemmas
-pub mod ShownLaws
-pub mod CasesLaws

@@ -1,4 +1,0 @@
-use Rattle.eqc_adders.proofs.cases.+are_equal_by.Given as goal
-
-abbrev pub decreases-are_equal_by : goal.decreases-are_equal_by
-decreases-are_equal_by l = l.depth

@@ -1,5 +1,0 @@
-use Rattle.eqc_sweep.proofs.CopyingLemmas.{IsEntering}
-use Rattle.eqc_adders.proofs.chains.copy_shaped.Given as goal
-
-abbrev pub invariant-nodes : goal.invariant-nodes
-invariant-nodes l = IsEntering l.graph l.fn.sweep l.sweep l.table.items

@@ -1,5 +1,0 @@
-use Rattle.eqc_graph.specs.Graph.{Extends}
-use Rattle.eqc_adders.proofs.leaves.make_left.Given as goal
-
-abbrev pub invariant-leaves : goal.invariant-leaves
-invariant-leaves l = Extends l.fn.sweep l.sweep

@@ -1,0 +1,4 @@
+pub mod ChainLemmas
+pub mod ShownLaws
+pub mod CasesLaws
+pub mod CutLaws

@@ -1,0 +1,5 @@
+use Rattle.eqc_graph.specs.Graph.{Extends}
+use Rattle.eqc_numbers.proofs.leaves.make_left.Given as goal
+
+abbrev pub invariant-leaves : goal.invariant-leaves
+invariant-leaves l = Extends l.fn.sweep l.sweep

@@ -1,0 +1,4 @@
+pub mod Chains
+pub mod Copies
+pub mod Cases
+pub mod Cuts

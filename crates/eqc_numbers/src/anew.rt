@@ -1,0 +1,246 @@
+//! Words that are equal since both are what a netlist made anew comes to.
+//!
+//! A product that was mapped has few of its adders left, so it can't be added up. But a product
+//! made anew in the architecture that it came from shares most of what it is made of, so that
+//! searches find the two equal; and what is made anew can be added up.
+ghost use Rattle.std.specs.Prelude.{◌≡◌, IfOk, IfSome, IsTrue};
+ghost use Rattle.eqc_graph.specs.Graph.{Extends};
+ghost use Rattle.eqc_sums.specs.Adding.{AreEqualWords};
+
+use crate::chains::{Shape, copy_shaped};
+use crate::compared::{Found, Search, TURNS};
+use crate::cuts::are_equal_over_cuts;
+use crate::shown::{Words, are_shown_equal, are_shown_in, copies, copy_both};
+use eqc_graph::Graph;
+use eqc_products::{Made, Reference, References, make_array, make_references};
+use eqc_sweep::{Effort, Sweep};
+use std::alloc::{AllocError, Global};
+
+/// A word may be of a netlist's architecture where so many of a thousand of its sums are among what
+/// the word is made of.
+const ALIKE: u32 = 350;
+
+/// Where so many literals of its adders are, the word is as it was made: it can be added up itself.
+const AS_MADE: u32 = 980;
+
+/// Words are first added up with this part of the work, and then with this one each as an array:
+/// what succeeds mostly takes less.
+const BRIEFLY: u64 = 8;
+
+const AS_ARRAY: u64 = 2;
+
+/// Makes a word of a netlist that is made anew in a graph. Fails where memory is refused.
+fn enter(alloc: Global, sweep: &mut Sweep, made: &Made) -> Result<Vec<u32>, AllocError>
+    ensures { Extends sweep.old sweep.new }
+{
+    let Made { graph, word } = made;
+    let table = copy_shaped(alloc, graph, word, sweep, Shape::Plain)?;
+    copies(alloc, &table, word)
+}
+
+/// The word of a netlist that is made anew, where searches find it equal to a word like which it
+/// is. Fails where memory is refused.
+fn found_equal<'a>(
+    word: &Words<'_>,
+    graph: &Graph,
+    reference: &Reference,
+    anew: &'a [u32],
+) -> Result<Option<&'a [u32]>, AllocError>
+    ensures { IfOk result (λ found. IfSome found (λ w. AreEqualWords graph.now word.now.firsts.now w.now)) }
+{
+    let both = Words {
+        seconds: anew,
+        ..*word
+    };
+    if reference.likeness >= ALIKE && both.found(graph, Search::Thorough)? == Found::Equal {
+        return Ok(Some(anew));
+    }
+    Ok(None)
+}
+
+#[tactic(auto, using(crate::proofs::ShownLaws::equal_along))]
+/// Whether two words are shown equal by what both add up to as another one does.
+fn are_added_up_by(words: &Words<'_>, graph: &Graph, third: &[u32]) -> Result<bool, AllocError>
+    ensures { IfOk result (λ is. IsTrue is → AreEqualWords graph.now words.now.firsts.now words.now.seconds.now) }
+{
+    let first = Words {
+        seconds: third,
+        ..*words
+    };
+    let second = Words {
+        firsts: third,
+        ..*words
+    };
+    Ok(are_shown_in(&first, graph, 0, AS_ARRAY)? && are_shown_in(&second, graph, 0, AS_ARRAY)?)
+}
+
+#[tactic(auto, using(crate::proofs::ShownLaws::words_back))]
+/// Whether two words of a graph that are the same sum of products are shown equal by what they add
+/// up to: by a brief look, or since both add up to what an array does that is made anew. Words that
+/// share parts, but are otherwise of different architectures, are shown so where they aren't by
+/// themselves: adders of one may have been found equal to parts of the other. Fails where memory is
+/// refused.
+pub fn are_equal_by_arrays(words: &Words<'_>, graph: &Graph) -> Result<bool, AllocError>
+    ensures { IfOk result (λ is. IsTrue is → AreEqualWords graph.now words.now.firsts.now words.now.seconds.now) }
+{
+    let Words {
+        alloc,
+        firsts,
+        seconds,
+        ..
+    } = *words;
+    let Some(array) = make_array(alloc, graph, firsts, seconds)? else {
+        return Ok(false);
+    };
+    if are_shown_in(words, graph, 0, BRIEFLY)? {
+        return Ok(true);
+    }
+    let mut sweep = Sweep::new(alloc, Effort::none())?;
+    let table = copy_both(words, graph, &mut sweep, Shape::Plain)?;
+    let ps = copies(alloc, &table, firsts)?;
+    let qs = copies(alloc, &table, seconds)?;
+    if ps.len() != firsts.len() || qs.len() != seconds.len() {
+        return Ok(false);
+    }
+    let third = enter(alloc, &mut sweep, &array)?;
+    let copied = Words {
+        firsts: &ps,
+        seconds: &qs,
+        ..*words
+    };
+    are_added_up_by(&copied, sweep.graph(), &third)
+}
+
+/// Whether two words are shown equal by what they add up to, briefly or both as an array does at
+/// first.
+fn are_added_up(words: &Words<'_>, graph: &Graph) -> Result<bool, AllocError>
+    ensures { IfOk result (λ is. IsTrue is → AreEqualWords graph.now words.now.firsts.now words.now.seconds.now) }
+{
+    Ok(are_equal_by_arrays(words, graph)? || are_shown_equal(words, graph, TURNS)?)
+}
+
+#[tactic(auto, using(crate::proofs::ShownLaws::equal_along))]
+/// Whether two words are shown equal, of which one that was made anew is equal to the first one.
+fn are_equal_from(words: &Words<'_>, graph: &Graph, one: &[u32]) -> Result<bool, AllocError>
+    requires equal { AreEqualWords graph.now words.now.firsts.now one.now }
+    ensures { IfOk result (λ is. IsTrue is → AreEqualWords graph.now words.now.firsts.now words.now.seconds.now) }
+{
+    let rest = Words {
+        firsts: one,
+        ..*words
+    };
+    are_added_up(&rest, graph)
+}
+
+#[tactic(auto, using(crate::proofs::ShownLaws::equal_along, crate::proofs::ShownLaws::equal_back))]
+/// Whether two words are shown equal, of which one that was made anew is equal to the second one.
+fn are_equal_to(
+    words: &Words<'_>,
+    graph: &Graph,
+    one: Option<&[u32]>,
+    other: &[u32],
+) -> Result<bool, AllocError>
+    requires one { IfSome one (λ w. AreEqualWords graph.now words.now.firsts.now w.now) }
+    requires other { AreEqualWords graph.now words.now.seconds.now other.now }
+    ensures { IfOk result (λ is. IsTrue is → AreEqualWords graph.now words.now.firsts.now words.now.seconds.now) }
+{
+    let rest = Words {
+        seconds: other,
+        ..*words
+    };
+    match one {
+        None => are_added_up(&rest, graph),
+        Some(one) => are_equal_from(&rest, graph, one),
+    }
+}
+
+/// Whether two words are shown equal by way of words that were made anew: first searches find these
+/// equal to the words, and then what is left is added up. Fails where memory is refused.
+fn are_equal_by_way(
+    words: &Words<'_>,
+    graph: &Graph,
+    one: Option<&[u32]>,
+    other: Option<&[u32]>,
+) -> Result<bool, AllocError>
+    requires one { IfSome one (λ w. AreEqualWords graph.now words.now.firsts.now w.now) }
+    requires other { IfSome other (λ w. AreEqualWords graph.now words.now.seconds.now w.now) }
+    ensures { IfOk result (λ is. IsTrue is → AreEqualWords graph.now words.now.firsts.now words.now.seconds.now) }
+{
+    match (one, other) {
+        (None, None) => Ok(false),
+        (Some(one), None) => are_equal_from(words, graph, one),
+        (one, Some(other)) => are_equal_to(words, graph, one, other),
+    }
+}
+
+/// Whether what a netlist is made anew for isn't as it was made.
+fn is_taken_apart(reference: &Reference) -> bool {
+    reference.whole < AS_MADE
+}
+
+/// Whether two words are shown equal in a graph that has what was made anew for both too.
+fn are_equal_in(
+    words: &Words<'_>,
+    graph: &Graph,
+    anew: &References,
+    first: &[u32],
+    second: &[u32],
+) -> Result<bool, AllocError>
+    ensures { IfOk result (λ is. IsTrue is → AreEqualWords graph.now words.now.firsts.now words.now.seconds.now) }
+{
+    let turned = Words {
+        firsts: words.seconds,
+        ..*words
+    };
+    let one = found_equal(words, graph, &anew.first, first)?;
+    let other = found_equal(&turned, graph, &anew.second, second)?;
+    are_equal_by_way(words, graph, one, other)
+}
+
+#[tactic(auto, using(crate::proofs::ShownLaws::words_back))]
+/// The same as `are_equal_anew` where the words are sums of products of inputs.
+pub(crate) fn are_equal_by_way_of_references(
+    words: &Words<'_>,
+    graph: &Graph,
+) -> Result<bool, AllocError>
+    ensures { IfOk result (λ is. IsTrue is → AreEqualWords graph.now words.now.firsts.now words.now.seconds.now) }
+{
+    let Words {
+        alloc,
+        firsts,
+        seconds,
+        ..
+    } = *words;
+    let Some(anew) = make_references(alloc, graph, firsts, seconds)? else {
+        return Ok(false);
+    };
+    if !is_taken_apart(&anew.first) && !is_taken_apart(&anew.second) {
+        return Ok(false);
+    }
+    let mut sweep = Sweep::new(alloc, Effort::none())?;
+    let table = copy_both(words, graph, &mut sweep, Shape::Plain)?;
+    let ps = copies(alloc, &table, firsts)?;
+    let qs = copies(alloc, &table, seconds)?;
+    if ps.len() != firsts.len() || qs.len() != seconds.len() {
+        return Ok(false);
+    }
+    let first = enter(alloc, &mut sweep, &anew.first.made)?;
+    let second = enter(alloc, &mut sweep, &anew.second.made)?;
+    let copied = Words {
+        firsts: &ps,
+        seconds: &qs,
+        ..*words
+    };
+    are_equal_in(&copied, sweep.graph(), &anew, &first, &second)
+}
+
+/// Whether two words of a graph are shown equal by way of netlists that are made anew for the sum
+/// of products that both are, where one of the words looks as if a mapping had taken its adders
+/// apart. Searches compare a word with what is made anew in the architecture that is most like it,
+/// and what is made anew is added up within the words' limits. Factors may be inputs, or nodes that
+/// both words are made of. Fails where memory is refused.
+pub fn are_equal_anew(words: &Words<'_>, graph: &Graph) -> Result<bool, AllocError>
+    ensures { IfOk result (λ is. IsTrue is → AreEqualWords graph.now words.now.firsts.now words.now.seconds.now) }
+{
+    Ok(are_equal_by_way_of_references(words, graph)? || are_equal_over_cuts(words, graph)?)
+}

@@ -1,0 +1,152 @@
+//! Words of a graph that are shown equal in a copy of what they are made of.
+ghost use Rattle.std.specs.Prelude.{◌≡◌, ℕ, List, length, IfOk, IsTrue};
+ghost use Rattle.eqc_graph.specs.declared.node.Node.{Node};
+ghost use Rattle.eqc_sweep.specs.Copying.{AreCopies};
+ghost use Rattle.eqc_sums.specs.Adding.{AreEqualWords};
+ghost use Rattle.eqc_numbers.specs.Copies.{AreCopiesOf};
+
+use crate::chains::{Shape, copy_shaped};
+use eqc_adders::{Limits, Sums};
+use eqc_graph::Graph;
+use eqc_sweep::{Effort, Sweep, copied};
+use std::alloc::{AllocError, Global};
+
+/// Two words of a graph, the lowest literal first, and how far it is gone to show them equal.
+#[derive(Clone, Copy)]
+pub struct Words<'a> {
+    pub alloc: Global,
+    pub firsts: &'a [u32],
+    /// As many literals as the first word has.
+    pub seconds: &'a [u32],
+    /// What may be done to show what they add up to.
+    pub limits: Limits,
+}
+
+/// The most conflicts of a question about a node that enters a copy.
+pub(crate) const CHEAP: u64 = 30;
+
+/// Enters so many inputs that nothing depends on: those behind them have other patterns then. Fails
+/// where memory is refused.
+fn draw(sweep: &mut Sweep, count: u32) -> Result<(), AllocError> {
+    for k in 0..count {
+        sweep.input(u32::MAX - k)?;
+    }
+    Ok(())
+}
+
+#[tactic(auto, using(crate::proofs::ShownLaws::copies_begin))]
+/// The copies of literals, up to the first one that has none. Fails where memory is refused.
+pub(crate) fn copies(
+    alloc: Global,
+    table: &[Option<u32>],
+    literals: &[u32],
+) -> Result<Vec<u32>, AllocError>
+    ensures { (old new : List Node) → AreCopies old new table.now → IfOk result (λ cs. AreCopiesOf old new literals.now cs.items) }
+{
+    let mut all = Vec::with_capacity(alloc, literals.len())?;
+    for k in 0..literals.len() {
+        let Some(copy) = copied(table, literals[k]) else {
+            break;
+        };
+        all.push(copy)?;
+    }
+    Ok(all)
+}
+
+/// Copies what literals of both words or netlists are made of, as `copy_shaped` does, into a
+/// graph in which nothing is asked from then on, and answers the copies of nodes. Fails where
+/// memory is refused.
+pub(crate) fn copy_both(
+    words: &Words<'_>,
+    graph: &Graph,
+    sweep: &mut Sweep,
+    shape: Shape,
+) -> Result<Vec<Option<u32>>, AllocError>
+    ensures { IfOk result (λ table. AreCopies graph.now sweep.new table.items) }
+{
+    let mut asked = Vec::new(words.alloc);
+    asked.extend_from_slice(words.firsts)?;
+    asked.extend_from_slice(words.seconds)?;
+    let table = copy_shaped(words.alloc, graph, &asked, sweep, shape);
+    sweep.ask_no_more();
+    table
+}
+
+/// Copies what two words are made of, the second one first in each other turn, and answers the
+/// copies of nodes.
+fn copy_words(
+    words: &Words<'_>,
+    graph: &Graph,
+    sweep: &mut Sweep,
+    turn: u32,
+) -> Result<Vec<Option<u32>>, AllocError>
+    ensures { IfOk result (λ table. AreCopies graph.now sweep.new table.items) }
+{
+    draw(sweep, turn)?;
+    if turn % 2 == 0 {
+        return copy_both(words, graph, sweep, Shape::Chains);
+    }
+    copy_shaped(words.alloc, graph, words.seconds, sweep, Shape::ShortChains)?;
+    copy_both(words, graph, sweep, Shape::ShortChains)
+}
+
+/// Whether two words are shown equal in a graph that has copies of nodes, with this part of the work
+/// for the steps. It stands apart for its
+/// proof's sake: where a graph is let go in each exit that takes many times longer.
+fn show_copies(
+    words: &Words<'_>,
+    table: &[Option<u32>],
+    sums: &mut Sums,
+    part: u64,
+) -> Result<bool, AllocError>
+    ensures { (old : List Node) → AreCopies old sums.old.reduction.sweep table.now → IfOk result (λ is. IsTrue is → AreEqualWords old words.now.firsts.now words.now.seconds.now) }
+{
+    let Words {
+        alloc,
+        firsts,
+        seconds,
+        limits,
+    } = *words;
+    let ps = copies(alloc, table, firsts)?;
+    let qs = copies(alloc, table, seconds)?;
+    if ps.len() != firsts.len() || qs.len() != seconds.len() {
+        return Ok(false);
+    }
+    let steps = limits.steps.min(sums.sweep().graph().len());
+    let limits = Limits { steps, ..limits };
+    sums.find_adders(limits)?;
+    sums.find_carries()?;
+    let work = limits.work / part.max(1);
+    sums.show(&ps, &qs, Limits { work, ..limits })
+}
+
+/// Whether two words are shown equal in one of the turns, which are counted from 0, with this part
+/// of the work for the steps. Fails where memory is refused.
+pub(crate) fn are_shown_in(
+    words: &Words<'_>,
+    graph: &Graph,
+    turn: u32,
+    part: u64,
+) -> Result<bool, AllocError>
+    ensures { IfOk result (λ is. IsTrue is → AreEqualWords graph.now words.now.firsts.now words.now.seconds.now) }
+{
+    let mut sweep = Sweep::new(words.alloc, Effort::of(CHEAP, words.limits.work))?;
+    let table = copy_words(words, graph, &mut sweep, turn)?;
+    let mut sums = Sums::new(words.alloc, sweep);
+    show_copies(words, &table, &mut sums, part)
+}
+
+/// Whether two words of a graph are shown equal within their limits by what they add up to, in a
+/// copy of what they are made of, in one of up to so many turns. In each of them other patterns are
+/// simulated, and the second word enters first in each other one. Steps are no more than there are
+/// nodes. Fails where memory is refused.
+pub fn are_shown_equal(words: &Words<'_>, graph: &Graph, turns: u32) -> Result<bool, AllocError>
+    ensures { IfOk result (λ is. IsTrue is → AreEqualWords graph.now words.now.firsts.now words.now.seconds.now) }
+{
+    'turns: for turn in 0..turns {
+        if are_shown_in(words, graph, turn, 1)? {
+            return Ok(true);
+        }
+    }
+    Ok(false)
+}
