@@ -25,7 +25,7 @@
 //! 11 follows 2, and nothing else does.
 ghost use Rattle.std.specs.Prelude.{◌≡◌, None, length, IfOk, IfErr};
 ghost use Rattle.eqc_compare.specs.Alike.{IsKnown};
-ghost use Rattle.eqc_inside.specs.Inside.{KeepsMarks};
+ghost use Rattle.eqc_literals.specs.Literals.{KeepsMarks};
 ghost use Rattle.eqc_report.specs.PairReport.{pair_report};
 ghost use Rattle.eqc_report.specs.ReportView.{report_of};
 ghost use Rattle.eqc_report.specs.Options.{options_code};

@@ -1,3 +1,1 @@
-pub mod Adding
-pub mod Inside
 pub mod Searching

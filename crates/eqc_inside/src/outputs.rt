@@ -4,12 +4,12 @@ ghost use Rattle.std.specs.List.{All};
 ghost use Rattle.eqc_sweep.specs.Team.{IsTwin};
 ghost use Rattle.eqc_compare.specs.Alike.{IsKnown};
 ghost use Rattle.eqc_compare.specs.Comparing.{difference_at};
-ghost use Rattle.eqc_inside.specs.Inside.{IsInside, KeepsMarks};
+ghost use Rattle.eqc_literals.specs.Literals.{IsInside, KeepsMarks};
 
-use crate::inside::{Inside, NONE, literal_of};
-use crate::searching::mark;
+use crate::inside::Inside;
 use eqc_build::Steps;
 use eqc_compare::{Alike, Progress, is_marked};
+use eqc_literals::{NONE, literal_of, mark};
 use eqc_sweep::{Sweep, Twins};
 use std::alloc::{AllocError, Global};
 use std::thread::Threads;

@@ -1,19 +1,14 @@
 //! Rounds of sweeping: each asks more of the nodes that are left than the one before.
-ghost use Rattle.std.specs.Prelude.{◌≡◌, ◌<◌, List, length, IfOk, IfSome};
-ghost use Rattle.eqc_graph.specs.declared.node.Node.{Node};
-ghost use Rattle.eqc_sweep.specs.Copying.{AreCopies};
-ghost use Rattle.eqc_sweep.specs.Sweeping.{HasValue};
-ghost use Rattle.eqc_pair.specs.PairOf.{PairOf};
-ghost use Rattle.eqc_build.specs.Building.{reference_of};
-ghost use Rattle.eqc_build.specs.Steps.{value_at};
+ghost use Rattle.std.specs.Prelude.{◌≡◌, ◌<◌, length, IfOk};
 ghost use Rattle.eqc_gates.specs.Entering.{AreLiterals};
 ghost use Rattle.eqc_compare.specs.Alike.{AreEqual, IsKnown};
 
-use crate::inside::{Inside, NONE, Owned, literal_of};
+use crate::inside::Inside;
 use eqc_build::Steps;
 use eqc_compare::{Alike, Progress, is_settled};
+use eqc_literals::{NONE, Owned, literal_of, moved};
 use eqc_pair::Pair;
-use eqc_sweep::{Comparison, Effort, Sweep, Tally, below, copied, copy, no_copies};
+use eqc_sweep::{Comparison, Effort, Sweep, Tally, below, copy, no_copies};
 use std::alloc::{AllocError, Global};
 use std::mem::swap;
 use std::thread::Threads;
@@ -196,37 +191,6 @@ pub(crate) fn open_literals(
         }
     }
     Ok(open)
-}
-
-/// The literal of a step, if it has one.
-pub(crate) fn entry(literals: &[Option<u32>], step: usize) -> Option<u32>
-    ensures { result ≡ reference_of literals.now step }
-{
-    literals.get(step).copied().flatten()
-}
-
-/// The literal of a step in another graph, where it has one there.
-fn moved_one(literals: &[Option<u32>], table: &[Option<u32>], step: usize) -> Option<u32>
-    ensures { (p : PairOf) (old new : List Node) → AreLiterals p old literals.now → AreCopies old new table.now → IfSome result (λ l. HasValue new l (λ a. value_at p a step)) }
-{
-    let literal = entry(literals, step)?;
-    copied(table, literal)
-}
-
-#[tactic(auto, using(crate::proofs::RoundLaws::moved_begins, crate::proofs::RoundLaws::moved_more))]
-/// The literals of steps in another graph. Fails where memory is refused.
-pub(crate) fn moved(
-    alloc: Global,
-    literals: &[Option<u32>],
-    table: &[Option<u32>],
-) -> Result<Vec<Option<u32>>, AllocError>
-    ensures { (p : PairOf) (old new : List Node) → AreLiterals p old literals.now → AreCopies old new table.now → IfOk result (λ all. AreLiterals p new all.items) }
-{
-    let mut all = Vec::with_capacity(alloc, literals.len())?;
-    for step in 0..literals.len() {
-        all.push(moved_one(literals, table, step))?;
-    }
-    Ok(all)
 }
 
 impl<'a> Inside<'a> {

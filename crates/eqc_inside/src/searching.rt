@@ -1,22 +1,21 @@
 //! What the comparison of a pair finds, found in the graph of its steps without a diagram: the
 //! outputs that differ, with their least assignments, and whether the assumption allows one.
-ghost use Rattle.std.specs.Prelude.{◌≡◌, ℕ, ◌<◌, false, true, None, length, slice_set, IfOk, IfSome};
+ghost use Rattle.std.specs.Prelude.{◌≡◌, ◌<◌, false, length, IfOk, IfSome};
 ghost use Rattle.std.specs.List.{All};
-ghost use Rattle.eqc_graph.specs.Graph.{Extends, IsWithin};
-ghost use Rattle.eqc_witness.specs.Witnesses.{IsFoundOf};
-ghost use Rattle.eqc_compare.specs.Verdict.{is_allowed};
-ghost use Rattle.eqc_compare.specs.Comparing.{netlist_of, assumption_of};
 ghost use Rattle.eqc_compare.specs.Alike.{AreEqual, IsKnown};
-ghost use Rattle.eqc_inside.specs.Inside.{IsInside, KeepsMarks};
-ghost use Rattle.eqc_inside.specs.Searching.{IsAnswerOf, IsSearched, IsWitnessAt, LacksLiteral, SaysAllowed, SaysDifferent, TellsVacuous};
+ghost use Rattle.eqc_literals.specs.Literals.{KeepsMarks};
+ghost use Rattle.eqc_miter.specs.Asking.{IsAnswerOf, IsWitnessAt, TellsVacuous};
+ghost use Rattle.eqc_inside.specs.Searching.{IsSearched};
 
-use crate::asking::{Answer, Share, Subject, ask, ask_all, question_of, questions_of};
-use crate::inside::{Inside, NONE, literal_of};
-use eqc_build::Steps;
+use crate::inside::Inside;
 use eqc_compare::{Alike, Difference, Outcome, Progress, is_settled};
+use eqc_literals::mark;
+use eqc_miter::{
+    Answer, Conflicts, Share, Subject, allowed_literal, ask, ask_all, is_never_allowed, note,
+    question_of, questions_of,
+};
 use eqc_pair::Pair;
-use eqc_sweep::{Comparison, Sweep};
-use eqc_witness::{EARLIER, Hints, Target, Witness, least_witness};
+use eqc_witness::Witness;
 use std::alloc::{AllocError, Global};
 use std::thread::Threads;
 
@@ -34,38 +33,6 @@ pub enum Searched {
     Open(usize, Option<Vec<bool>>),
     /// It gave up before any output, at the question whether the assumption allows an assignment.
     Unasked,
-}
-
-/// The conflicts that the searches of a pair may have.
-#[derive(Drop, Clone, Copy)]
-pub struct Conflicts {
-    /// Those of each output.
-    pub each: u64,
-    /// Those of all outputs together.
-    pub all: u64,
-}
-
-impl Conflicts {
-    /// Those that the next output may have.
-    pub(crate) fn next(&self) -> u64 {
-        self.each.min(self.all)
-    }
-
-    /// What each part of the outputs but the first may have, where so many threads take a part each
-    /// and the first may have these: all parts together no more than twice as many, and each no
-    /// more than a single output.
-    pub(crate) fn part(&self, threads: u32) -> Conflicts {
-        let all = self.all / threads.max(1) as u64;
-        Conflicts {
-            each: self.each,
-            all: all.min(self.each),
-        }
-    }
-
-    /// Takes those away that an output used.
-    pub(crate) fn take(&mut self, used: u64) {
-        self.all = self.all.saturating_sub(used);
-    }
 }
 
 /// How outputs that differ are looked for.
@@ -108,125 +75,6 @@ struct Course {
     ahead: Vec<Answer>,
 }
 
-#[tactic(auto, using(crate::proofs::AskingLaws::lacks_root))]
-/// The literal that is true where the assumption allows the inputs' values: always, if there is
-/// none. None where its step has no literal.
-fn allowed_literal(steps: &Steps<'_>, sweep: &Sweep, literals: &[Option<u32>]) -> Option<u32>
-    requires { IsInside steps.now sweep.now literals.now }
-    ensures allowed { IfSome result (SaysAllowed steps.now.pair sweep.now) }
-    ensures none { result ≡ None → (output : ℕ) → LacksLiteral steps.now literals.now output }
-{
-    let Some(root) = steps.assumed_root() else {
-        return Some(sweep.constant(true));
-    };
-    let literal = literal_of(literals, root);
-    if literal == NONE {
-        return None;
-    }
-    Some(literal)
-}
-
-#[tactic(auto, using(crate::proofs::AskingLaws::lacks_first, crate::proofs::AskingLaws::lacks_second))]
-/// The literal that is true where an output differs and the assumption allows it, or none where its
-/// steps have no literals. Fails where memory is refused.
-pub(crate) fn difference_literal(
-    steps: &Steps<'_>,
-    sweep: &mut Sweep,
-    literals: &[Option<u32>],
-    output: usize,
-) -> Result<Option<u32>, AllocError>
-    requires inside { IsInside steps.now sweep.old literals.now }
-    requires output { output < length steps.now.pair.first.outputs }
-    ensures inside { IsInside steps.now sweep.new literals.now }
-    ensures extends { Extends sweep.old sweep.new }
-    ensures literal { IfOk result (λ found. IfSome found (SaysDifferent steps.now.pair sweep.new output)) }
-    ensures none { IfOk result (λ found. found ≡ None → LacksLiteral steps.now literals.now output) }
-{
-    let Some(allowed) = allowed_literal(steps, sweep, literals) else {
-        return Ok(None);
-    };
-    let roots = steps.roots(output);
-    let x = literal_of(literals, roots[0]);
-    let y = literal_of(literals, roots[1]);
-    if x == NONE || y == NONE {
-        return Ok(None);
-    }
-    let differ = sweep.xor(x, y)?;
-    let literal = sweep.and(allowed, differ)?;
-    Ok(Some(literal))
-}
-
-/// Variables and their values under which simulation saw the literal true: none where it didn't.
-/// Nothing is promised of it.
-pub(crate) fn seen_true(alloc: Global, sweep: &mut Sweep, literal: u32) -> Vec<(u32, bool)>
-    requires { IsWithin sweep.old literal }
-    ensures { sweep.new ≡ sweep.old }
-{
-    let never = sweep.constant(false);
-    match sweep.equal(literal, never, &mut 0) {
-        Ok(Comparison::Differs(values)) => values,
-        _ => Vec::new(alloc),
-    }
-}
-
-/// The work that is left for further outputs, where so much was there before a search, and so much
-/// behind it: a difference that is told of is worth its work.
-pub(crate) fn work_left(found: &Witness, before: u64, behind: u64) -> u64 {
-    match found {
-        Witness::Least(_) => before,
-        Witness::Never | Witness::Unknown(_) => behind,
-    }
-}
-
-/// Whether no assignment is allowed, by what is found of those that are: none where nothing is.
-fn tells_vacuous(pair: &Pair<'_>, found: Witness) -> Option<bool>
-    requires { IsFoundOf (length pair.now.first.inputs) (is_allowed (netlist_of pair.now.first) (assumption_of pair.now)) found }
-    ensures { IfSome result (TellsVacuous pair.now) }
-{
-    let _pair = pair;
-    match found {
-        Witness::Least(_) => Some(false),
-        Witness::Never => Some(true),
-        Witness::Unknown(seen) => {
-            let Some(_) = seen else {
-                return None;
-            };
-            Some(false)
-        }
-    }
-}
-
-/// Whether no assignment is allowed, where a literal of the graph says which are, by a search with
-/// so many conflicts: none where it gave up. Fails where memory is refused.
-fn is_never_allowed(
-    alloc: Global,
-    pair: &Pair<'_>,
-    sweep: &mut Sweep,
-    literal: u32,
-    conflicts: u64,
-) -> Result<Option<bool>, AllocError>
-    requires { SaysAllowed pair.now sweep.old literal }
-    ensures unchanged { sweep.new ≡ sweep.old }
-    ensures found { IfOk result (λ found. IfSome found (TellsVacuous pair.now)) }
-{
-    let seen = seen_true(alloc, sweep, literal);
-    let mut left = conflicts;
-    let mut work = u64::MAX;
-    let variables = pair.variables();
-    let found = least_witness(
-        alloc,
-        sweep.graph(),
-        &Target { literal, variables },
-        &Hints {
-            seen: &seen,
-            earlier: &[],
-        },
-        &mut left,
-        &mut work,
-    )?;
-    Ok(tells_vacuous(pair, found))
-}
-
 /// The next outputs from one on that are chosen and not marked, at most so many, where these
 /// answers are there of later ones. Fails where memory is refused.
 fn open_outputs(
@@ -256,20 +104,6 @@ fn open_outputs(
     Ok(open)
 }
 
-/// Notes the least assignment of an output, if it was found, for those that are asked for after it,
-/// in place of the first one where no more would be tried. Where memory is refused for it nothing
-/// is noted.
-pub(crate) fn note(earlier: &mut Vec<Vec<bool>>, found: &Witness) {
-    if let Witness::Least(values) = found {
-        if let Ok(values) = values.clone() {
-            if earlier.len() >= EARLIER {
-                let _first = earlier.remove(0);
-            }
-            let _ = earlier.push(values);
-        }
-    }
-}
-
 /// What was found ahead of this output, if anything was: where it gave up with fewer conflicts than
 /// this one may have, nothing was. What was found of later ones stays.
 fn next_found(
@@ -291,16 +125,6 @@ fn next_found(
         return None;
     }
     Some(answer)
-}
-
-/// Marks an output, if it has a mark.
-pub(crate) fn mark(alike: &mut Alike, output: usize)
-    ensures equal { alike.new.equal.items ≡ slice_set alike.old.equal.items output true }
-    ensures chosen { alike.new.chosen ≡ alike.old.chosen }
-{
-    if output < alike.equal.len() {
-        alike.equal[output] = true;
-    }
 }
 
 impl<'a> Inside<'a> {

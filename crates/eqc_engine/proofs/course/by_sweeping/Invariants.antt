@@ -1,6 +1,6 @@
 use Rattle.std.proofs.Common.{◌≡◌}
 use Rattle.eqc_compare.specs.Alike.{IsKnown}
-use Rattle.eqc_inside.specs.Inside.{KeepsMarks}
+use Rattle.eqc_literals.specs.Literals.{KeepsMarks}
 use Rattle.eqc_report.specs.Seen.{IsLeftOf}
 use Rattle.eqc_report.specs.Left.{KeepsTold}
 use Rattle.eqc_engine.proofs.course.by_sweeping.Given as goal

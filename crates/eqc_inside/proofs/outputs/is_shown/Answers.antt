@@ -1,6 +1,6 @@
 use Rattle.std.proofs.Common.{◌∙◌, ap, sym}
 use Rattle.eqc_graph.specs.Graph.{literal_value}
-use Rattle.eqc_inside.proofs.InsideLaws.{asked_equal}
+use Rattle.eqc_literals.proofs.LiteralLaws.{asked_equal}
 use Rattle.eqc_inside.proofs.outputs.is_shown.Goals as goal
 
 pub returns : goal.returns

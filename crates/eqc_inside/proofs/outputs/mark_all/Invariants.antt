@@ -1,5 +1,5 @@
 use Rattle.eqc_compare.specs.Alike.{IsKnown}
-use Rattle.eqc_inside.specs.Inside.{KeepsMarks}
+use Rattle.eqc_literals.specs.Literals.{KeepsMarks}
 use Rattle.eqc_inside.proofs.outputs.mark_all.Given as goal
 
 abbrev pub invariant-loop-twins : goal.invariant-loop-twins

@@ -1,7 +1,7 @@
 use Rattle.std.proofs.Common.{◌≡◌, ◌∙◌, ◌<◌, length, subst, sym}
 use Rattle.std.specs.List.{All}
 use Rattle.eqc_compare.specs.Alike.{IsKnown}
-use Rattle.eqc_inside.specs.Inside.{KeepsMarks}
+use Rattle.eqc_literals.specs.Literals.{KeepsMarks}
 use Rattle.eqc_inside.proofs.inside.Inside.add_in_turn.Goals as goal
 
 pub add_open-requires-clause-outputs : goal.add_open-requires-clause-outputs

@@ -1,6 +1,6 @@
 use Rattle.std.proofs.Common.{◌≡◌}
 use Rattle.eqc_compare.specs.Alike.{IsKnown}
-use Rattle.eqc_inside.specs.Inside.{KeepsMarks}
+use Rattle.eqc_literals.specs.Literals.{KeepsMarks}
 use Rattle.eqc_inside.proofs.inside.Inside.add_up.Given as goal
 
 abbrev pub invariant-turns : goal.invariant-turns

@@ -1,6 +1,6 @@
 use Rattle.std.proofs.Common.{false, subst}
-use Rattle.eqc_inside.specs.Searching.{TellsVacuous}
-use Rattle.eqc_inside.proofs.SearchingLaws.{tells_without}
+use Rattle.eqc_miter.specs.Asking.{TellsVacuous}
+use Rattle.eqc_miter.proofs.MiterLaws.{tells_without}
 use Rattle.eqc_inside.proofs.inside.Inside.allows_none.Goals as goal
 
 pub returns-in_default-clause-found : goal.returns-in_default-clause-found

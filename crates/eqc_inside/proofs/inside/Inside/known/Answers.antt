@@ -1,4 +1,4 @@
-use Rattle.eqc_inside.proofs.InsideLaws.{tell_equal}
+use Rattle.eqc_literals.proofs.LiteralLaws.{tell_equal}
 use Rattle.eqc_inside.proofs.inside.Inside.known.Goals as goal
 
 pub outputs_of_one_literal-requires-clause-tell : goal.outputs_of_one_literal-requires-clause-tell

@@ -2,10 +2,10 @@ use Rattle.std.proofs.Common.{◌≡◌, ◌<◌, ◌∙◌, true, false, Some, 
 use Rattle.std.proofs.Common.{arith}
 use Rattle.std.specs.List.{All}
 use Rattle.eqc_compare.specs.Alike.{AreEqual}
-use Rattle.eqc_inside.specs.Searching.{IsAnswerOf}
+use Rattle.eqc_miter.specs.Asking.{IsAnswerOf}
 use Rattle.eqc_compare.specs.declared.outcome.Difference.{Difference}
 use Rattle.eqc_compare.specs.Comparing.{difference_at, told_at, is_chosen_at}
-use Rattle.eqc_inside.proofs.InsideLaws.{equal_set, kept_set}
+use Rattle.eqc_literals.proofs.LiteralLaws.{equal_set, kept_set}
 use Rattle.eqc_compare.proofs.ToldLaws.{told_skip, told_more, told_first, told_chosen, told_equal}
 use Rattle.eqc_compare.proofs.OutcomeLaws.{compared_outcome}
 use Rattle.eqc_inside.proofs.inside.Inside.search_each.Goals as goal

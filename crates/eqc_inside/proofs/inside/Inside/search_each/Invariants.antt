@@ -1,8 +1,8 @@
 use Rattle.std.proofs.Common.{◌≡◌}
 use Rattle.std.specs.List.{All}
 use Rattle.eqc_compare.specs.Alike.{IsKnown}
-use Rattle.eqc_inside.specs.Inside.{KeepsMarks}
-use Rattle.eqc_inside.specs.Searching.{IsAnswerOf}
+use Rattle.eqc_literals.specs.Literals.{KeepsMarks}
+use Rattle.eqc_miter.specs.Asking.{IsAnswerOf}
 use Rattle.eqc_compare.proofs.ToldLaws.{AreToldBefore}
 use Rattle.eqc_inside.proofs.inside.Inside.search_each.Given as goal
 

@@ -1,6 +1,6 @@
 use Rattle.std.proofs.Common.{◌≡◌, ◌∙◌}
-use Rattle.eqc_inside.specs.Searching.{IsQuestionOf}
-use Rattle.eqc_inside.proofs.SearchingLaws.{answer_for}
+use Rattle.eqc_miter.specs.Asking.{IsQuestionOf}
+use Rattle.eqc_miter.proofs.MiterLaws.{answer_for}
 use Rattle.eqc_inside.proofs.inside.Inside.search_output.Goals as goal
 
 pub ask-requires : goal.ask-requires

@@ -1,0 +1,2 @@
+pub mod AddingLaws
+pub mod InnerLaws

@@ -1,6 +1,0 @@
-use Rattle.std.specs.List.{All}
-use Rattle.eqc_inside.specs.Searching.{IsAnswerOf}
-use Rattle.eqc_inside.proofs.asking.ask_each.Given as goal
-
-abbrev pub invariant-loop-question : goal.invariant-loop-question
-invariant-loop-question l = All (IsAnswerOf l.subject.pair.now) l.all.items

@@ -1,6 +1,0 @@
-use Rattle.eqc_inside.proofs.SearchingLaws.{allowed_as}
-use Rattle.eqc_inside.proofs.searching.tells_vacuous.Goals as goal
-
-pub returns : goal.returns
-returns c = allowed_as c.args.pair.now c.args.found c.in-Unknown.seen _ c.in-Unknown.is c.in-Some.is
-    c.requires

@@ -1,0 +1,66 @@
+//! Steps that are chosen in place of others: steps of one literal have one value, so that one of
+//! them needs to be made.
+ghost use Rattle.std.specs.Prelude.{◌≡◌, min, slice_index_or, slice_set, IfOk};
+ghost use Rattle.eqc_build.specs.Steps.{IsChoice, chosen_for};
+ghost use Rattle.eqc_literals.specs.Literals.{TellEqual};
+
+use crate::literal::{NONE, literal_of};
+use eqc_build::Steps;
+use std::alloc::{AllocError, Global};
+
+/// The step that is chosen in place of one.
+fn chosen_for(chosen: &[u32], step: u32) -> u32
+    ensures { result ≡ chosen_for chosen.now step }
+{
+    chosen.get(step as usize).copied().unwrap_or(step)
+}
+
+/// The lowest step that came with a literal, of those before and this one, which is noted. It is
+/// this one where the literal is none.
+fn first_with(firsts: &mut Vec<u32>, literal: usize, step: u32) -> u32
+    ensures first { result ≡ min (slice_index_or firsts.old.items literal step) step }
+    ensures noted { firsts.new.items ≡ slice_set firsts.old.items literal result }
+{
+    let first = firsts.get(literal).copied().unwrap_or(step).min(step);
+    if literal >= firsts.len() {
+        return first;
+    }
+    firsts[literal] = first;
+    first
+}
+
+/// A number above all literals of steps.
+fn above_all(literals: &[Option<u32>]) -> u32 {
+    let mut above = 0;
+    for literal in literals {
+        let literal = literal.unwrap_or(NONE);
+        if literal != NONE && literal >= above {
+            above = literal + 1;
+        }
+    }
+    above
+}
+
+/// Chooses in place of each step the first one of its literal, and the one that is chosen already
+/// where it has none. `chosen` has for each step of the pair the one that is chosen in place of it
+/// so far, of the same value; `literals` has those of steps of which any two of one literal have
+/// one value. Fails where memory is refused.
+pub fn first_of_literal(
+    alloc: Global,
+    steps: &Steps<'_>,
+    chosen: &[u32],
+    literals: &[Option<u32>],
+) -> Result<Vec<u32>, AllocError>
+    requires choice { IsChoice steps.now.pair chosen.now }
+    requires tell { TellEqual steps.now.pair literals.now }
+    ensures { IfOk result (λ more. IsChoice steps.now.pair more.items) }
+{
+    let mut firsts = vec![in alloc; NONE; above_all(literals) as usize]?;
+    let mut more = Vec::with_capacity(alloc, steps.len() as usize)?;
+    for k in 0..steps.len() {
+        let step = chosen_for(chosen, k);
+        let literal = literal_of(literals, step) as usize;
+        more.push(first_with(&mut firsts, literal, step))?;
+    }
+    Ok(more)
+}

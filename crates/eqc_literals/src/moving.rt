@@ -1,0 +1,38 @@
+//! The literals of steps in a graph into which theirs was copied.
+ghost use Rattle.std.specs.Prelude.{List, IfOk, IfSome};
+ghost use Rattle.eqc_graph.specs.declared.node.Node.{Node};
+ghost use Rattle.eqc_sweep.specs.Copying.{AreCopies};
+ghost use Rattle.eqc_sweep.specs.Sweeping.{HasValue};
+ghost use Rattle.eqc_pair.specs.PairOf.{PairOf};
+ghost use Rattle.eqc_build.specs.Steps.{value_at};
+ghost use Rattle.eqc_gates.specs.Entering.{AreLiterals};
+
+use crate::literal::entry;
+use eqc_sweep::copied;
+use std::alloc::{AllocError, Global};
+
+/// The literal of a step in another graph, where it has one there.
+fn moved_one(literals: &[Option<u32>], table: &[Option<u32>], step: usize) -> Option<u32>
+    ensures { (p : PairOf) (old new : List Node) → AreLiterals p old literals.now → AreCopies old new table.now → IfSome result (λ l. HasValue new l (λ a. value_at p a step)) }
+{
+    let literal = entry(literals, step)?;
+    copied(table, literal)
+}
+
+#[tactic(auto, using(crate::proofs::MovingLaws::moved_begins, crate::proofs::MovingLaws::moved_more))]
+/// The literals of steps in another graph: none where a step has none, or its node has no copy.
+/// `literals` has those in the graph that was copied, and `table` the literal of each copy, by the
+/// nodes there. Fails where memory is refused.
+pub fn moved(
+    alloc: Global,
+    literals: &[Option<u32>],
+    table: &[Option<u32>],
+) -> Result<Vec<Option<u32>>, AllocError>
+    ensures { (p : PairOf) (old new : List Node) → AreLiterals p old literals.now → AreCopies old new table.now → IfOk result (λ all. AreLiterals p new all.items) }
+{
+    let mut all = Vec::with_capacity(alloc, literals.len())?;
+    for step in 0..literals.len() {
+        all.push(moved_one(literals, table, step))?;
+    }
+    Ok(all)
+}

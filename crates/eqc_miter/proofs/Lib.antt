@@ -1,0 +1,2 @@
+pub mod MiterLaws
+pub mod AskingLaws
