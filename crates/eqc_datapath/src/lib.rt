@@ -15,4 +15,4 @@ mod look;
 
 pub use adding::{MOST_NODES, Task, Turn, add_open, limits_in};
 pub use inner::{Scope, shown_below};
-pub use look::Look;
+pub use look::{Kind, Look};

@@ -1,4 +1,5 @@
 //! Which words are looked for, and how far that goes.
+
 use crate::adding::{MOST_FAILED, MOST_NODES, limits_in};
 use eqc_adders::Limits;
 
@@ -16,13 +17,14 @@ const PART: u32 = 8;
 
 /// Which words are looked for.
 #[derive(Clone, Copy, PartialEq, Eq, Debug)]
-pub(crate) enum Kind {
+pub enum Kind {
     /// Words inside, until the first one isn't shown equal at once, in a graph that isn't large: a
     /// run that has none takes little longer.
     Short,
-    /// Words inside, until several aren't, each in several turns.
+    /// Words inside, until several aren't, each in several turns, in larger graphs too.
     Long,
-    /// Words of outputs, by way of products that are made anew, in larger graphs too.
+    /// Words of outputs that are products which a mapping took apart, by way of products that are
+    /// made anew, in larger graphs too.
     Anew,
     /// Words of outputs that are sums of products, added up briefly or as arrays that are made
     /// anew, in larger graphs too.
@@ -32,58 +34,15 @@ pub(crate) enum Kind {
     Cases,
 }
 
-/// Which words are looked for, and with how many conflicts that a run may have.
+/// Which words are looked for, and how far that goes.
 #[derive(Clone, Copy, PartialEq, Eq, Debug)]
 pub struct Look {
-    pub(crate) kind: Kind,
-    conflicts: u64,
+    pub kind: Kind,
+    /// What may be done is in proportion to the conflicts that a run may have.
+    pub conflicts: u64,
 }
 
 impl Look {
-    /// A look for words inside that takes a run which has none little longer, where it may have so
-    /// many conflicts.
-    pub fn short(conflicts: u64) -> Look {
-        Look {
-            kind: Kind::Short,
-            conflicts,
-        }
-    }
-
-    /// A look for words inside in larger graphs too, with several turns for each word.
-    pub fn long(conflicts: u64) -> Look {
-        Look {
-            kind: Kind::Long,
-            conflicts,
-        }
-    }
-
-    /// A look for words of outputs that are products which a mapping took apart, equal to products
-    /// that are made anew.
-    pub fn anew(conflicts: u64) -> Look {
-        Look {
-            kind: Kind::Anew,
-            conflicts,
-        }
-    }
-
-    /// A look for words of outputs that are sums of products and are shown equal by a brief look at
-    /// what they add up to, or since both add up to what an array does that is made anew.
-    pub fn by_arrays(conflicts: u64) -> Look {
-        Look {
-            kind: Kind::Arrays,
-            conflicts,
-        }
-    }
-
-    /// A look for words of outputs that are equal for each value of the inputs that choose what a
-    /// design does.
-    pub fn in_cases(conflicts: u64) -> Look {
-        Look {
-            kind: Kind::Cases,
-            conflicts,
-        }
-    }
-
     /// Whether words of outputs are meant, by their names.
     pub fn is_of_outputs(self) -> bool {
         match self.kind {

@@ -38,7 +38,7 @@ use crate::workers::{
     goes_on_alone, has_large_room, has_many_inputs, has_some_inputs, is_full,
 };
 use eqc_compare::{Alike, Progress, Stage, alike_or_nothing, known_outcome};
-use eqc_inside::{Conflicts, Inside, Look, Rounds, Searched, Span, Terms};
+use eqc_inside::{Conflicts, Inside, Kind, Look, Rounds, Searched, Span, Terms};
 use eqc_report::{Options, Report, Undecided, found_report, note_seen};
 use eqc_tree::Stop;
 use std::sync::Wait;
@@ -519,13 +519,9 @@ fn by_longer_searches<R: Threads + Wait + Sync, P: Progress<R> + Sync>(
 #[derive(Clone, Copy)]
 enum Attempt {
     ShortRounds,
-    /// Words of outputs, by way of products that are made anew.
-    WordsAnew,
-    /// Words of outputs that are sums of products, added up briefly or both as an array.
-    WordsByArrays,
     WordsOfOutputs,
-    WordsInside,
-    WordsInCases,
+    /// Words of outputs or inside, of one kind.
+    Words(Kind),
     LargeRoom,
     /// Rounds that take no longer than diagrams of one worker.
     RoundsBetween,
@@ -534,24 +530,23 @@ enum Attempt {
     LongRounds,
     /// Diagrams of one worker where longer rounds came first.
     OneWorkerLate,
-    WordsInsideLonger,
     LongerSearches,
 }
 
 /// All attempts, in their order.
 static ATTEMPTS: &[Attempt] = &[
     Attempt::ShortRounds,
-    Attempt::WordsAnew,
-    Attempt::WordsByArrays,
+    Attempt::Words(Kind::Anew),
+    Attempt::Words(Kind::Arrays),
     Attempt::WordsOfOutputs,
-    Attempt::WordsInside,
-    Attempt::WordsInCases,
+    Attempt::Words(Kind::Short),
+    Attempt::Words(Kind::Cases),
     Attempt::LargeRoom,
     Attempt::RoundsBetween,
     Attempt::OneWorker,
     Attempt::LongRounds,
     Attempt::OneWorkerLate,
-    Attempt::WordsInsideLonger,
+    Attempt::Words(Kind::Long),
     Attempt::LongerSearches,
 ];
 
@@ -582,28 +577,16 @@ fn by_attempt<R: Threads + Wait + Sync, P: Progress<R> + Sync>(
     ensures seen { IsLeftOf comparison.now.pair.now left.old → IsLeftOf comparison.now.pair.now left.new }
     ensures told { KeepsTold left.old left.new }
 {
-    let conflicts = u64::from(comparison.options.conflicts);
     let rounds = &mut course.rounds;
     match attempt {
         Attempt::ShortRounds => by_short_rounds(comparison, inside, alike, rounds, left),
-        Attempt::WordsAnew => {
-            by_inner_sums(comparison, inside, alike, rounds, Look::anew(conflicts))
-        }
         Attempt::WordsOfOutputs => by_sums(comparison, inside, alike),
-        Attempt::WordsByArrays => {
-            by_inner_sums(
-                comparison,
-                inside,
-                alike,
-                rounds,
-                Look::by_arrays(conflicts),
-            )
-        }
-        Attempt::WordsInside => {
-            by_inner_sums(comparison, inside, alike, rounds, Look::short(conflicts))
-        }
-        Attempt::WordsInCases => {
-            by_inner_sums(comparison, inside, alike, rounds, Look::in_cases(conflicts))
+        Attempt::Words(kind) => {
+            let look = Look {
+                kind,
+                conflicts: u64::from(comparison.options.conflicts),
+            };
+            by_inner_sums(comparison, inside, alike, rounds, look)
         }
         Attempt::LargeRoom => in_room(comparison, Room::Large, alike),
         Attempt::RoundsBetween => {
@@ -614,9 +597,6 @@ fn by_attempt<R: Threads + Wait + Sync, P: Progress<R> + Sync>(
         Attempt::OneWorkerLate if course.is_late => in_room(comparison, Room::One, alike),
         Attempt::OneWorker | Attempt::OneWorkerLate => Err(Stop::NodeLimit),
         Attempt::LongRounds => by_long_rounds(comparison, inside, alike, rounds, left),
-        Attempt::WordsInsideLonger => {
-            by_inner_sums(comparison, inside, alike, rounds, Look::long(conflicts))
-        }
         Attempt::LongerSearches => by_longer_searches(comparison, inside, alike, left),
     }
 }

@@ -24,7 +24,7 @@ mod outputs;
 mod rounds;
 mod searching;
 
-pub use eqc_datapath::Look;
+pub use eqc_datapath::{Kind, Look};
 pub use eqc_miter::Conflicts;
 pub use inside::Inside;
 pub use rounds::{Rounds, Span};

@@ -8,18 +8,18 @@ ghost use Rattle.eqc_sums.specs.Adding.{AreEqualWords};
 ghost use Rattle.eqc_numbers.specs.Cuts.{IsCut, StandsFor};
 
 use crate::anew::are_equal_by_way_of_references;
-use crate::chains::Shape;
+use crate::chains::{Shape, copy_shaped};
 use crate::shown::{CHEAP, Words, copies, copy_both};
 use eqc_graph::{Graph, Node, node_of};
-use eqc_products::make_array;
+use eqc_products::is_sum_of_products;
 use eqc_sweep::{Effort, Sweep, below};
 use std::alloc::{AllocError, Global};
 
 /// The variables from here on are those of nodes.
 const FIRST: u32 = 1_073_741_824;
 
-/// A gate of which so many others are made in each netlist is like the bit of a factor, which counts
-/// with each bit of the other one.
+/// A gate of which so many others are made is like the bit of a factor, which counts with each bit
+/// of the other one. Where a netlist recodes the factor fewer are made of it there.
 const MANY: u32 = 8;
 
 #[tactic(auto, using(crate::proofs::CutLaws::cut_stands, crate::proofs::CutLaws::input_stands, crate::proofs::CutLaws::constant_stands, crate::proofs::CutLaws::and_stands, crate::proofs::CutLaws::xor_stands))]
@@ -82,8 +82,12 @@ fn uses_below(alloc: Global, graph: &Graph, word: &[u32]) -> Result<Vec<u32>, Al
     Ok(uses)
 }
 
-/// Marks of the gates of which many others are made below each of two words: none where there is no
-/// such gate. Nothing is promised of them. Fails where memory is refused.
+fn is_gate(graph: &Graph, k: u32) -> bool {
+    k < graph.len() && matches!(graph.node(k), Node::And(_, _) | Node::Xor(_, _))
+}
+
+/// Marks of the gates below both words of which many others are made below one of them: none where
+/// there is no such gate. Nothing is promised of them. Fails where memory is refused.
 fn cuts_of(
     alloc: Global,
     graph: &Graph,
@@ -97,12 +101,28 @@ fn cuts_of(
     for k in 0..graph.len() {
         let uses = one.get(k as usize).copied().unwrap_or(0);
         let others = other.get(k as usize).copied().unwrap_or(0);
-        let is_gate = matches!(graph.node(k), Node::And(_, _) | Node::Xor(_, _));
-        let is_cut = is_gate && uses.min(others) >= MANY;
+        let is_cut = is_gate(graph, k) && uses.min(others) > 0 && uses.max(others) >= MANY;
         some = some || is_cut;
         cuts.push(is_cut)?;
     }
     Ok(if some { Some(cuts) } else { None })
+}
+
+/// Notes the gates of which many others are made below a word. Fails where memory is refused.
+fn note_factors(
+    alloc: Global,
+    graph: &Graph,
+    word: &[u32],
+    factors: &mut Vec<u32>,
+) -> Result<(), AllocError> {
+    let uses = uses_below(alloc, graph, word)?;
+    for k in 0..graph.len() {
+        let is_used = uses.get(k as usize).copied().unwrap_or(0) >= MANY;
+        if is_used && is_gate(graph, k) {
+            factors.push(2 * k)?;
+        }
+    }
+    Ok(())
 }
 
 /// Whether a word is a sum of products of gates of which many others are made below it, or of
@@ -112,7 +132,7 @@ fn is_product(alloc: Global, graph: &Graph, word: &[u32]) -> Result<bool, AllocE
         return Ok(false);
     };
     let cut = cut_graph(alloc, graph, &cuts)?;
-    Ok(make_array(alloc, &cut, word, word)?.is_some())
+    is_sum_of_products(alloc, &cut, word)
 }
 
 /// Whether two words are shown equal by their copies in a graph, some of whose nodes become inputs.
@@ -141,9 +161,27 @@ fn are_equal_in_copy(
     are_equal_by_way_of_references(&copied, &cut)
 }
 
+/// Copies what two words are made of into a graph in which such gates are one as many others are
+/// made of, where they are easily found equal, and nothing else is asked: so each word stays in its
+/// own architecture. Answers the copies of nodes. Fails where memory is refused.
+fn copy_over_factors(
+    words: &Words<'_>,
+    graph: &Graph,
+    sweep: &mut Sweep,
+) -> Result<Vec<Option<u32>>, AllocError>
+    ensures { IfOk result (λ table. AreCopies graph.now sweep.new table.items) }
+{
+    let mut factors = Vec::new(words.alloc);
+    note_factors(words.alloc, graph, words.firsts, &mut factors)?;
+    note_factors(words.alloc, graph, words.seconds, &mut factors)?;
+    copy_shaped(words.alloc, graph, &factors, sweep, Shape::Plain)?;
+    sweep.ask_no_more();
+    copy_both(words, graph, sweep, Shape::Plain)
+}
+
 /// Whether two words are shown equal by way of netlists that are made anew for what they are of
-/// nodes that both are made of, in a copy in which nodes that are easily found equal are one. Where
-/// neither is such a sum of its own nodes it is left at a look. Fails where memory is refused.
+/// nodes that both are made of, in a copy in which such nodes are one that are easily found equal.
+/// Where neither is such a sum of its own nodes it is left at a look. Fails where memory is refused.
 pub(crate) fn are_equal_over_cuts(words: &Words<'_>, graph: &Graph) -> Result<bool, AllocError>
     ensures { IfOk result (λ is. IsTrue is → AreEqualWords graph.now words.now.firsts.now words.now.seconds.now) }
 {
@@ -157,6 +195,6 @@ pub(crate) fn are_equal_over_cuts(words: &Words<'_>, graph: &Graph) -> Result<bo
         return Ok(false);
     }
     let mut sweep = Sweep::new(alloc, Effort::of(CHEAP, limits.work))?;
-    let table = copy_both(words, graph, &mut sweep, Shape::Plain)?;
+    let table = copy_over_factors(words, graph, &mut sweep)?;
     are_equal_in_copy(words, &table, sweep.graph())
 }

@@ -17,12 +17,14 @@ pub(crate) struct Factor {
     pub(crate) is_signed: bool,
 }
 
-/// The product of two words, of which the lowest bits count 2^lowest together.
+/// The product of two words, of which the lowest bits count 2^lowest together, or less than nothing
+/// by that.
 #[derive(Drop)]
 pub(crate) struct Product {
     pub(crate) first: Factor,
     pub(crate) second: Factor,
     pub(crate) lowest: u32,
+    pub(crate) is_negative: bool,
 }
 
 /// What a polynomial adds up beside its constant: products, and inputs that count by themselves, by
@@ -132,13 +134,31 @@ impl Rest {
         Ok(places)
     }
 
-    /// Whether the last bit of a word counts as less than nothing beside the first one of another.
+    /// Whether what two inputs count together is taken away.
+    fn is_taken_away(&self, one: usize, other: usize) -> bool {
+        match column_of(self.at(one, other), self.bits) {
+            Some((_, is_taken_away)) => is_taken_away,
+            None => false,
+        }
+    }
+
+    /// Whether of two inputs beside a third one the last one is taken away and the first one isn't,
+    /// or the other way round. In the last column nothing tells the two apart.
+    fn is_other_sign(&self, last: usize, first: usize, by: usize) -> bool {
+        match column_of(self.at(last, by), self.bits) {
+            Some((column, is_taken_away)) => {
+                (column as usize).saturating_add(1) < self.bits
+                    && is_taken_away != self.is_taken_away(first, by)
+            }
+            None => false,
+        }
+    }
+
+    /// Whether the last bit of a word counts as less than nothing beside the first one of another,
+    /// where the first one of the word counts, or the other way round.
     fn is_signed(&self, word: &[usize], other: &[usize]) -> bool {
-        match (word.last(), other.first()) {
-            (Some(last), Some(first)) => match column_of(self.at(*last, *first), self.bits) {
-                Some((_, is_negative)) => is_negative,
-                None => false,
-            },
+        match (word.first(), word.last(), other.first()) {
+            (Some(first), Some(last), Some(by)) => self.is_other_sign(*last, *first, *by),
             _ => false,
         }
     }
@@ -192,7 +212,7 @@ impl Rest {
             (Some(low), Some(high)) => column_of(self.at(*low, *high), self.bits),
             _ => None,
         };
-        let Some((lowest, _)) = lowest else {
+        let Some((lowest, is_negative)) = lowest else {
             return Ok(None);
         };
         let is_signed = self.is_signed(&first, &second);
@@ -207,6 +227,7 @@ impl Rest {
                 is_signed: is_other_signed,
             },
             lowest,
+            is_negative,
         };
         Ok(if self.take(&product) {
             Some(product)
@@ -239,12 +260,9 @@ impl Rest {
         let mut places = Vec::new(alloc);
         places.push(zero)?;
         places.extend_from_slice(&self.word_with(alloc, zero)?)?;
-        let is_signed = match places.last() {
-            None => false,
-            Some(last) => match column_of(self.at(zero, *last), self.bits) {
-                Some((_, is_negative)) => is_negative,
-                None => false,
-            },
+        let is_signed = match (places.get(1), places.last()) {
+            (Some(one), Some(last)) => self.is_other_sign(*last, *one, zero),
+            _ => false,
         };
         Ok(Factor { places, is_signed })
     }
@@ -294,6 +312,7 @@ impl Rest {
                 first: self.word_from(alloc, zero)?,
                 second: self.word_from(alloc, zero)?,
                 lowest,
+                is_negative: self.is_taken_away(x, y),
             };
             if self.take_square(&square) {
                 return Ok(Some(square));
@@ -310,9 +329,15 @@ impl Factor {
 }
 
 impl Product {
+    /// Whether it is a word times itself: two others have no input in common.
+    pub(crate) fn is_square(&self) -> bool {
+        self.first.places.first().copied() == self.second.places.first().copied()
+    }
+
     /// Whether the conjunction of two bits counts as less than nothing.
     pub(crate) fn is_taken_away(&self, i: usize, j: usize) -> bool {
-        self.first.is_last(i) != self.second.is_last(j)
+        let is_signed = self.first.is_last(i) != self.second.is_last(j);
+        is_signed != self.is_negative
     }
 }
 

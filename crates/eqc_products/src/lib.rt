@@ -22,4 +22,6 @@ mod quadratic;
 mod references;
 mod simulation;
 
-pub use references::{Made, Reference, References, make_array, make_references};
+pub use references::{
+    Made, Reference, References, is_sum_of_products, make_array, make_references,
+};

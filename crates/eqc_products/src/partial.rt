@@ -117,6 +117,57 @@ impl Word {
     }
 }
 
+/// The literals of a product's factors, of which the first one makes the rows.
+#[derive(Drop)]
+struct Factors {
+    lowest: usize,
+    first: Word,
+    second: Word,
+    is_negative: bool,
+}
+
+impl Factors {
+    /// Those of a product of inputs, of which these are the literals by their places. Fails where
+    /// memory is refused.
+    fn of(
+        alloc: Global,
+        inputs: &[u32],
+        product: &Product,
+        is_swapped: bool,
+    ) -> Result<Factors, AllocError> {
+        let (first, second) = if is_swapped {
+            (&product.second, &product.first)
+        } else {
+            (&product.first, &product.second)
+        };
+        Ok(Factors {
+            lowest: product.lowest as usize,
+            first: Word::of(alloc, inputs, first)?,
+            second: Word::of(alloc, inputs, second)?,
+            is_negative: product.is_negative,
+        })
+    }
+
+    /// Whether the row of a bit of the first word counts as less than nothing.
+    fn is_row_negative(&self, i: usize) -> bool {
+        self.first.is_sign(i) != self.is_negative
+    }
+
+    /// The digit of two bits of the first word from one on, less than nothing where the product is
+    /// and the digit isn't. Fails where memory is refused.
+    fn digit(&self, netlist: &mut Netlist, at: usize) -> Result<Digit, AllocError> {
+        let low = if at == 0 {
+            FALSE
+        } else {
+            self.first.bit(at - 1)
+        };
+        let high = self.first.bit(at.saturating_add(1));
+        let digit = Digit::of(netlist, low, self.first.bit(at), high)?;
+        let negative = negated_if(digit.negative, self.is_negative);
+        Ok(Digit { negative, ..digit })
+    }
+}
+
 /// A digit of two bits: whether it is odd, whether it is two or less than nothing by two, and
 /// whether it is less than nothing.
 #[derive(Clone, Copy)]
@@ -207,21 +258,16 @@ impl Partial {
     }
 
     /// Puts the rows of a product, one for each bit of the first word.
-    fn put_plain(
-        &mut self,
-        netlist: &mut Netlist,
-        lowest: usize,
-        first: &Word,
-        second: &Word,
-    ) -> Result<(), AllocError> {
+    fn put_plain(&mut self, netlist: &mut Netlist, factors: &Factors) -> Result<(), AllocError> {
+        let Factors { first, second, .. } = factors;
         for i in 0..first.len() {
-            let from = lowest.saturating_add(i);
+            let from = factors.lowest.saturating_add(i);
             let mut row = self.row()?;
             for j in 0..second.len() {
                 let column = from.saturating_add(j);
                 if column < self.bits {
                     let both = netlist.and(first.bit(i), second.bit(j))?;
-                    let is_taken_away = first.is_sign(i) != second.is_sign(j);
+                    let is_taken_away = factors.is_row_negative(i) != second.is_sign(j);
                     row.put(column, self.counted(column, both, is_taken_away));
                 }
             }
@@ -232,21 +278,17 @@ impl Partial {
 
     /// Puts the same rows, each of which goes on with its sign to the last column; one that is taken
     /// away is its complement, and one more.
-    fn put_extended(
-        &mut self,
-        netlist: &mut Netlist,
-        lowest: usize,
-        first: &Word,
-        second: &Word,
-    ) -> Result<(), AllocError> {
+    fn put_extended(&mut self, netlist: &mut Netlist, factors: &Factors) -> Result<(), AllocError> {
+        let Factors { first, second, .. } = factors;
         for i in 0..first.len() {
-            let from = lowest.saturating_add(i);
+            let from = factors.lowest.saturating_add(i);
+            let is_negative = factors.is_row_negative(i);
             let mut row = self.row()?;
             for column in from..self.bits {
                 let both = netlist.and(first.bit(i), second.bit(column - from))?;
-                row.put(column, negated_if(both, first.is_sign(i)));
+                row.put(column, negated_if(both, is_negative));
             }
-            if first.is_sign(i) && from < 128 {
+            if is_negative && from < 128 {
                 self.number = self.number.wrapping_add(1u128 << from);
             }
             self.rows.push(row)?;
@@ -285,20 +327,14 @@ impl Partial {
     }
 
     /// Puts the rows of a product by the digits of the first word.
-    fn put_recoded(
-        &mut self,
-        netlist: &mut Netlist,
-        lowest: usize,
-        first: &Word,
-        second: &Word,
-    ) -> Result<(), AllocError> {
+    fn put_recoded(&mut self, netlist: &mut Netlist, factors: &Factors) -> Result<(), AllocError> {
+        let first = &factors.first;
         let bits = first.len().saturating_add(usize::from(!first.is_signed));
         for place in 0..bits.div_ceil(2) {
             let at = place.saturating_mul(2);
-            let low = if at == 0 { FALSE } else { first.bit(at - 1) };
-            let high = first.bit(at.saturating_add(1));
-            let digit = Digit::of(netlist, low, first.bit(at), high)?;
-            self.put_digit(netlist, lowest.saturating_add(at), digit, second)?;
+            let digit = factors.digit(netlist, at)?;
+            let lowest = factors.lowest.saturating_add(at);
+            self.put_digit(netlist, lowest, digit, &factors.second)?;
         }
         Ok(())
     }
@@ -312,18 +348,11 @@ impl Partial {
         digits: Digits,
         is_swapped: bool,
     ) -> Result<(), AllocError> {
-        let (first, second) = if is_swapped {
-            (&product.second, &product.first)
-        } else {
-            (&product.first, &product.second)
-        };
-        let one = Word::of(self.alloc, inputs, first)?;
-        let other = Word::of(self.alloc, inputs, second)?;
-        let lowest = product.lowest as usize;
+        let factors = Factors::of(self.alloc, inputs, product, is_swapped)?;
         match digits {
-            Digits::Plain => self.put_plain(netlist, lowest, &one, &other)?,
-            Digits::Extended => self.put_extended(netlist, lowest, &one, &other)?,
-            Digits::Recoded => self.put_recoded(netlist, lowest, &one, &other)?,
+            Digits::Plain => self.put_plain(netlist, &factors)?,
+            Digits::Extended => self.put_extended(netlist, &factors)?,
+            Digits::Recoded => self.put_recoded(netlist, &factors)?,
         }
         self.part = self.part.saturating_add(1);
         Ok(())

@@ -12,7 +12,8 @@ use eqc_sweep::{Random, below};
 use std::alloc::{AllocError, Global};
 
 /// So many of a thousand spans of a tree of prefixes are among what a word is made of at least, if
-/// it is taken to end with it.
+/// it is taken to end with it: of a tree with which it doesn't end about so many are, since trees
+/// share spans.
 const ENDS_SO: u32 = 300;
 
 /// An architecture of a product: which digits of which factor make rows, and how these are added
@@ -234,9 +235,9 @@ impl<'a> Task<'a> {
         let has_singles = self.summands.singles.iter().any(|times| *times != 0);
         let products = &self.summands.products;
         let has_parts = products.len() > 1 || has_singles;
-        let has_signs = products
-            .iter()
-            .any(|it| it.first.is_signed || it.second.is_signed);
+        let has_signs = products.iter().any(|it| it.is_negative
+            || it.first.is_signed
+            || it.second.is_signed);
         let mut all = Vec::new(self.alloc);
         for (digits, tree) in TREES {
             for is_swapped in [false, true] {
@@ -279,14 +280,15 @@ impl<'a> Task<'a> {
         Ok([first, second])
     }
 
-    /// The same architecture with the tree of prefixes at its end of which a word has most spans, if
-    /// these are enough.
+    /// The same architecture with the tree of prefixes at its end of which a word has most spans
+    /// beyond those that it has of any tree. Their share doesn't tell: all spans of a tree of few
+    /// are among those of one of many.
     fn with_end(
         &self,
         seen: &Seen,
         architecture: Architecture,
     ) -> Result<Architecture, AllocError> {
-        let mut most = ENDS_SO;
+        let mut most = 0u64;
         let mut found = architecture;
         for end in PREFIXES {
             let other = Architecture {
@@ -294,9 +296,12 @@ impl<'a> Task<'a> {
                 ..architecture
             };
             let (netlist, _) = self.made(other)?;
-            let share = seen.share(&self.values(&netlist, &seen.patterns)?, netlist.spans());
-            if share > most {
-                most = share;
+            let spans = netlist.spans();
+            let share = seen.share(&self.values(&netlist, &seen.patterns)?, spans);
+            let more = u64::from(share.saturating_sub(ENDS_SO));
+            let beyond = more.saturating_mul(spans.len() as u64);
+            if beyond > most {
+                most = beyond;
                 found = other;
             }
         }
@@ -339,6 +344,15 @@ fn sum_of(
     Ok(Some((quadratic, summands)))
 }
 
+/// Whether a word of a graph, the lowest literal first, looks like a sum of products of two inputs.
+/// Nothing is promised of it. Fails where memory is refused.
+pub fn is_sum_of_products(alloc: Global, graph: &Graph, word: &[u32]) -> Result<bool, AllocError> {
+    let Some(quadratic) = Quadratic::of(alloc, graph, word)? else {
+        return Ok(false);
+    };
+    Ok(summands_of(alloc, &quadratic.turned())?.is_some())
+}
+
 /// Netlists made anew for two words of a graph, the lowest literal first, each in the architecture
 /// that is most like it: none where the words aren't the same sum of products of two inputs. That
 /// they stand for what the words do isn't promised. Fails where memory is refused.
@@ -367,8 +381,9 @@ pub fn make_references(
 
 /// An array made anew for two words of a graph, the lowest literal first, in whatever architectures
 /// these are: row after row, each added by a chain of carries, since such a netlist is added up
-/// most easily. None where the words aren't the same sum of products of two inputs. That it stands
-/// for what they do isn't promised. Fails where memory is refused.
+/// most easily. None where the words aren't the same sum of products of two inputs, or where one of
+/// these is a square, whose array isn't added up more easily than another netlist. That it stands for
+/// what they do isn't promised. Fails where memory is refused.
 pub fn make_array(
     alloc: Global,
     graph: &Graph,
@@ -378,6 +393,9 @@ pub fn make_array(
     let Some((quadratic, summands)) = sum_of(alloc, graph, first, second)? else {
         return Ok(None);
     };
+    if summands.products.iter().any(|it| it.is_square()) {
+        return Ok(None);
+    }
     let task = Task {
         alloc,
         quadratic: &quadratic,

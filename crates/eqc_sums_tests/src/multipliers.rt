@@ -305,6 +305,9 @@ fn inputs(
     Ok(word)
 }
 
+/// The input that chooses words.
+const CHOICE: u32 = 900;
+
 /// A word of so many bits, each of which is one of two inputs by another input.
 fn chosen_word(
     alloc: Global,
@@ -320,9 +323,6 @@ fn chosen_word(
     }
     Ok(word)
 }
-
-/// The input that chooses words.
-const CHOICE: u32 = 900;
 
 /// What is multiplied: two words of so many bits, each of inputs or of two words of these by another
 /// input, or one by itself.
