@@ -2,6 +2,7 @@
 //! whether it is worth a look for them, and what is chosen then (`eqc_datapath`).
 ghost use Rattle.std.specs.Prelude.{◌≡◌, ◌<◌, IfOk};
 ghost use Rattle.std.specs.List.{All};
+ghost use Rattle.eqc_build.specs.Steps.{IsChoice, chosen_for};
 ghost use Rattle.eqc_compare.specs.Alike.{AreEqual, IsKnown};
 
 use crate::adding::Meant;
@@ -18,6 +19,34 @@ use std::alloc::{AllocError, Global};
 
 /// So many sums that look alike and aren't found equal are worth a look.
 const SOME: u32 = 4;
+
+/// The step that is chosen in place of one.
+fn chosen_for(chosen: &[u32], step: u32) -> u32
+    ensures { result ≡ chosen_for chosen.now step }
+{
+    chosen.get(step as usize).copied().unwrap_or(step)
+}
+
+/// The steps that are chosen, by the second of two choices, in place of those that the first one
+/// has in place of others. Fails where memory is refused.
+fn chosen_along(
+    alloc: Global,
+    steps: &Steps<'_>,
+    first: &[u32],
+    then: &[u32],
+) -> Result<Vec<u32>, AllocError>
+    requires first { IsChoice steps.now.pair first.now }
+    requires then { IsChoice steps.now.pair then.now }
+    ensures { IfOk result (λ more. IsChoice steps.now.pair more.items) }
+{
+    let mut more = Vec::with_capacity(alloc, steps.len() as usize)?;
+    for k in 0..steps.len() {
+        let step = chosen_for(first, k);
+        let next = chosen_for(then, step);
+        more.push(next)?;
+    }
+    Ok(more)
+}
 
 /// All outputs of so many. Of those that are known to be equal too there may be sums whose carries
 /// go on.
@@ -115,7 +144,8 @@ impl<'a> Inside<'a> {
                 break;
             };
             chosen = first_of_literal(alloc, &steps, &chosen, &shown)?;
-            alike.chosen = first_of_literal(alloc, &steps, &alike.chosen, &shown)?;
+            // What is shown is told of the steps themselves, not of those in their places.
+            alike.chosen = chosen_along(alloc, &steps, &chosen, &alike.chosen)?;
             some = true;
         }
         Ok(some)
