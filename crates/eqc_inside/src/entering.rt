@@ -6,7 +6,7 @@ use crate::inside::Inside;
 use crate::rounds::Rounds;
 use eqc_build::Steps;
 use eqc_compare::{Alike, Progress};
-use eqc_miter::{entered_untold, wanted_of};
+use eqc_miter::entered_wanted;
 use eqc_pair::Pair;
 use eqc_sweep::{Effort, Sweep};
 use std::alloc::{AllocError, Global};
@@ -47,16 +47,16 @@ impl<'a> Inside<'a> {
     }
 
     /// Enters the steps that outputs need, into a graph in which nothing is asked yet, and answers
-    /// the work that it took to see that others aren't needed. Fails where memory is refused: no
+    /// the work that it took to see which others aren't needed. Fails where memory is refused: no
     /// step has a literal then.
     fn enter(&mut self, alloc: Global, alike: &Alike, every: bool) -> Result<u64, AllocError>
         requires { IsKnown self.old alike.now }
         ensures { self.new ≡ self.old }
     {
-        let wanted = wanted_of(alloc, &self.steps, &alike.equal, every)?;
         self.literals = Vec::new(alloc);
-        self.literals = entered_untold(alloc, &self.steps, &wanted.marks, &mut self.sweep)?;
-        Ok(wanted.work)
+        let entered = entered_wanted(alloc, &self.steps, &alike.equal, every, &mut self.sweep)?;
+        self.literals = entered.literals;
+        Ok(entered.work)
     }
 
     /// Enters the steps that outputs need, sweeps them in a first round, and allows searches. Fails

@@ -1,2 +1,3 @@
 pub mod MiterLaws
 pub mod AskingLaws
+pub mod EnteringLaws

@@ -1,16 +1,18 @@
-//! Which steps of a pair are to enter a graph.
-ghost use Rattle.std.specs.Prelude.{◌≡◌, ◌≤◌, length, IfOk};
+//! How steps of a pair enter a graph in which nothing is asked, and which of them are wanted there.
+ghost use Rattle.std.specs.Prelude.{◌≡◌, ◌≤◌, List, length, IfOk};
 ghost use Rattle.eqc_compare.specs.Alike.{AreEqual};
+ghost use Rattle.eqc_build.specs.Steps.{StepsOf};
 ghost use Rattle.eqc_gates.specs.Entering.{AreClosed};
+ghost use Rattle.eqc_graph.specs.declared.node.Node.{Node};
 ghost use Rattle.eqc_literals.specs.Literals.{IsInside};
 
 use crate::difference::difference_literal;
 use eqc_build::Steps;
-use eqc_compare::is_settled;
+use eqc_compare::{is_marked, is_settled};
 use eqc_gates::{literals, needed, needed_within};
-use eqc_literals::{CHARACTERS, Owned};
+use eqc_literals::CHARACTERS;
 use eqc_pair::Pair;
-use eqc_sweep::{Effort, Sweep};
+use eqc_sweep::Sweep;
 use eqc_witness::{first_shown, words_shown};
 use std::alloc::{AllocError, Global};
 
@@ -71,19 +73,19 @@ fn differences(
     Ok((found, outputs))
 }
 
-/// What is to enter a graph.
+/// What entered a graph.
 #[derive(Drop)]
-pub struct Wanted {
-    /// The steps that do.
-    pub marks: Vec<bool>,
-    /// The work that it took to see that others needn't.
+pub struct Entered {
+    /// The literals of the steps that are wanted: none of the others.
+    pub literals: Vec<Option<u32>>,
+    /// The work that it took to see which others aren't.
     pub work: u64,
 }
 
 /// Enters the marked steps into a graph, of which nobody is told, and answers their literals.
 /// `marks` has a mark for each step that enters, and what a marked step uses is marked. Fails where
 /// memory is refused.
-pub fn entered_untold(
+fn entered_untold(
     alloc: Global,
     steps: &Steps<'_>,
     marks: &[bool],
@@ -97,70 +99,66 @@ pub fn entered_untold(
     literals(alloc, steps, marks, sweep, &ignored)
 }
 
-/// The first of some outputs that is seen to differ under pseudo-random values in a graph to which
-/// the marked steps are added, if one is: others may differ before it. The work that it took is
-/// added to what there is. Fails where memory is refused.
-fn first_seen_in(
+/// The first of some outputs that is seen to differ under pseudo-random values in the graph that
+/// their steps entered, if one is: others may differ before it. Fails where memory is refused.
+fn first_seen(
     alloc: Global,
     steps: &Steps<'_>,
-    marks: &[bool],
+    literals: &[Option<u32>],
     wanted: &[bool],
     sweep: &mut Sweep,
-    work: &mut u64,
 ) -> Result<Option<usize>, AllocError>
-    requires closed { AreClosed steps.now marks.now }
+    requires inside { IsInside steps.now sweep.old literals.now }
     requires outputs { length wanted.now ≤ length steps.now.pair.first.outputs }
+    ensures { IsInside steps.now sweep.new literals.now }
 {
-    let literals = entered_untold(alloc, steps, marks, sweep)?;
-    let (found, outputs) = differences(alloc, steps, sweep, &literals, wanted)?;
-    *work = work.saturating_add(work_seeing(sweep.graph().len()));
+    let (found, outputs) = differences(alloc, steps, sweep, literals, wanted)?;
     let Some(place) = first_shown(alloc, sweep.graph(), &found)? else {
         return Ok(None);
     };
     Ok(outputs.get(place).copied())
 }
 
-/// The same in a graph of the marked steps alone, in which nothing is asked. It stands apart for
-/// its proof's sake: where a graph is let go in each exit that takes many times longer.
-fn first_seen(
-    alloc: Global,
-    steps: &Steps<'_>,
-    marks: &[bool],
-    wanted: &[bool],
-    work: &mut u64,
-) -> Result<Option<usize>, AllocError>
-    requires closed { AreClosed steps.now marks.now }
-    requires outputs { length wanted.now ≤ length steps.now.pair.first.outputs }
+#[tactic(auto, using(crate::proofs::EnteringLaws::inside_without))]
+/// Takes the literals of steps away that aren't marked. Their nodes stay in the graph.
+fn forget_unmarked(literals: &mut Vec<Option<u32>>, marks: &[bool])
+    ensures { (g : StepsOf) (nodes : List Node) → IsInside g nodes literals.old.items → IsInside g nodes literals.new.items }
 {
-    let mut plain = Owned {
-        sweep: Sweep::new(alloc, Effort::none())?,
-    };
-    first_seen_in(alloc, steps, marks, wanted, &mut plain.sweep, work)
+    for step in 0..literals.len() {
+        if !is_marked(marks, step) {
+            literals[step] = None;
+        }
+    }
 }
 
-/// Which steps enter for the chosen outputs of a pair that are not marked as equal: unless `every`
-/// one that differs is looked for, without those that only outputs behind the first need that is
-/// seen to differ. Outputs that have one of the marks `equal` never differ. No step is marked where
-/// too much would enter. Fails where memory is refused.
-pub fn wanted_of(
+/// Enters the steps into a graph in which nothing is asked that the chosen outputs of a pair need
+/// which are not marked as equal: unless `every` one that differs is looked for, those that only
+/// outputs behind the first need that is seen to differ have no literals then. Outputs that have
+/// one of the marks `equal` never differ. Nothing enters where it would be too much. Fails where
+/// memory is refused.
+pub fn entered_wanted(
     alloc: Global,
     steps: &Steps<'_>,
     equal: &[bool],
     every: bool,
-) -> Result<Wanted, AllocError>
+    sweep: &mut Sweep,
+) -> Result<Entered, AllocError>
     requires { AreEqual steps.now.pair equal.now }
-    ensures { IfOk result (λ wanted. AreClosed steps.now wanted.marks.items) }
+    ensures { IfOk result (λ entered. IsInside steps.now sweep.new entered.literals.items) }
 {
     let mut outputs = unmarked(alloc, steps.pair(), equal)?;
     let marks = needed_within(alloc, steps, &outputs, CHARACTERS)?;
-    let mut work = 0;
+    let mut literals = entered_untold(alloc, steps, &marks, sweep)?;
     if every {
-        return Ok(Wanted { marks, work });
+        return Ok(Entered { literals, work: 0 });
     }
-    let Some(last) = first_seen(alloc, steps, &marks, &outputs, &mut work)? else {
-        return Ok(Wanted { marks, work });
+    let seen = first_seen(alloc, steps, &literals, &outputs, sweep)?;
+    let work = work_seeing(sweep.graph().len());
+    let Some(last) = seen else {
+        return Ok(Entered { literals, work });
     };
     unmark_behind(&mut outputs, last);
-    let marks = needed(alloc, steps, &outputs)?;
-    Ok(Wanted { marks, work })
+    let wanted = needed(alloc, steps, &outputs)?;
+    forget_unmarked(&mut literals, &wanted);
+    Ok(Entered { literals, work })
 }

@@ -20,4 +20,4 @@ pub use allowing::is_never_allowed;
 pub use asking::{Answer, Question, Share, Subject, ask, ask_all, note, question_of, questions_of};
 pub use conflicts::Conflicts;
 pub use difference::allowed_literal;
-pub use entering::{Wanted, entered_untold, wanted_of};
+pub use entering::{Entered, entered_wanted};
