@@ -179,6 +179,25 @@ fn copy_over_factors(
     copy_both(words, graph, sweep, Shape::Plain)
 }
 
+/// Whether two words are shown equal so in a copy in which all nodes are one that are easily found
+/// equal.
+fn are_equal_when_swept(words: &Words<'_>, graph: &Graph) -> Result<bool, AllocError>
+    ensures { IfOk result (λ is. IsTrue is → AreEqualWords graph.now words.now.firsts.now words.now.seconds.now) }
+{
+    let mut sweep = Sweep::new(words.alloc, Effort::of(CHEAP, words.limits.work))?;
+    let table = copy_both(words, graph, &mut sweep, Shape::Plain)?;
+    are_equal_in_copy(words, &table, sweep.graph())
+}
+
+/// Whether two words are shown equal so in a copy in which such gates alone are one.
+fn are_equal_over_factors(words: &Words<'_>, graph: &Graph) -> Result<bool, AllocError>
+    ensures { IfOk result (λ is. IsTrue is → AreEqualWords graph.now words.now.firsts.now words.now.seconds.now) }
+{
+    let mut sweep = Sweep::new(words.alloc, Effort::of(CHEAP, words.limits.work))?;
+    let table = copy_over_factors(words, graph, &mut sweep)?;
+    are_equal_in_copy(words, &table, sweep.graph())
+}
+
 /// Whether two words are shown equal by way of netlists that are made anew for what they are of
 /// nodes that both are made of, in a copy in which such nodes are one that are easily found equal.
 /// Where neither is such a sum of its own nodes it is left at a look. Fails where memory is refused.
@@ -189,12 +208,10 @@ pub(crate) fn are_equal_over_cuts(words: &Words<'_>, graph: &Graph) -> Result<bo
         alloc,
         firsts,
         seconds,
-        limits,
+        ..
     } = *words;
     if !is_product(alloc, graph, firsts)? && !is_product(alloc, graph, seconds)? {
         return Ok(false);
     }
-    let mut sweep = Sweep::new(alloc, Effort::of(CHEAP, limits.work))?;
-    let table = copy_over_factors(words, graph, &mut sweep)?;
-    are_equal_in_copy(words, &table, sweep.graph())
+    Ok(are_equal_when_swept(words, graph)? || are_equal_over_factors(words, graph)?)
 }

@@ -17,7 +17,7 @@ pub(crate) enum Tree {
     /// As few adders as bring columns down to heights that are each half as much again as the next
     /// one (Dadda).
     Late,
-    /// Three whole rows at a time, and two come of them.
+    /// Three rows of all columns at a time, and two come of them.
     Threes,
     /// Column by column from the lowest on, three at a time, until one is left.
     Columns,
@@ -59,6 +59,16 @@ impl Columns {
         Ok(all)
     }
 
+    /// What is added up, by columns, the number first, where a literal that is always false takes its
+    /// place too.
+    fn one_by_one(alloc: Global, partial: &Partial) -> Result<Columns, AllocError> {
+        let mut columns = Vec::with_capacity(alloc, partial.bits)?;
+        for column in 0..partial.bits {
+            columns.push(partial.column(column)?)?;
+        }
+        Ok(Columns { alloc, columns })
+    }
+
     fn len(&self) -> usize {
         self.columns.len()
     }
@@ -76,6 +86,32 @@ impl Columns {
             most = most.max(literals.len());
         }
         most
+    }
+
+    /// How much one literal of each of the highest columns counts in all.
+    fn weight_of_highest(&self) -> usize {
+        let highest = self.highest();
+        let mut weight = 0usize;
+        for column in 0..self.len() {
+            if self.height(column) == highest {
+                weight = weight.saturating_add(1usize << column.min(32));
+            }
+        }
+        weight
+    }
+
+    /// Takes a literal of each of the highest columns, as often as it counts one.
+    fn take_highest(&mut self, ones: &mut Vec<u32>) -> Result<(), AllocError> {
+        let highest = self.highest();
+        for column in 0..self.len() {
+            if self.height(column) == highest {
+                let literal = self.take(column);
+                for _ in 0..1usize << column.min(32) {
+                    ones.push(literal)?;
+                }
+            }
+        }
+        Ok(())
     }
 
     fn at(&self, column: usize, k: usize) -> u32 {
@@ -139,14 +175,15 @@ impl Columns {
 
     /// The word of columns of up to two, with carries as an end has them.
     fn ended(&mut self, netlist: &mut Netlist, end: End) -> Result<Vec<u32>, AllocError> {
-        if end == End::Chain || self.highest() > 2 {
+        if end == End::Chain || (1..self.len()).any(|column| self.height(column) > 2) {
             return self.chain(netlist);
         }
+        let carry = self.at(0, 2);
         let mut both = Vec::with_capacity(self.alloc, self.len())?;
         for column in 0..self.len() {
             both.push((self.at(column, 0), self.at(column, 1)))?;
         }
-        prefixed(self.alloc, netlist, &both, end)
+        prefixed(self.alloc, netlist, &both, carry, end)
     }
 
     /// Puts the literals of a row of others behind these.
@@ -251,59 +288,99 @@ impl Columns {
     }
 }
 
-/// The two rows that come of three.
-fn two_of(
+/// Rows of all columns, and literals each of which counts one: they stand in place of carries into
+/// the first column.
+#[derive(Drop)]
+struct Rows {
     alloc: Global,
-    netlist: &mut Netlist,
     bits: usize,
-    rows: [&Row; 3],
-) -> Result<(Row, Row), AllocError> {
-    let mut sums = Row::new(alloc, bits)?;
-    let mut carries = Row::new(alloc, bits)?;
-    let [one, two, three] = rows;
-    for column in 0..bits {
-        let (sum, carry) = netlist.add(one.at(column), two.at(column), three.at(column))?;
-        sums.put(column, sum);
-        carries.put(column.saturating_add(1), carry);
-    }
-    Ok((sums, carries))
+    rows: Vec<Row>,
+    ones: Vec<u32>,
 }
 
-/// The rows that come of threes of these, where those that are left go on.
-fn layer_of(
-    alloc: Global,
-    netlist: &mut Netlist,
-    bits: usize,
-    rows: &[Row],
-) -> Result<Vec<Row>, AllocError> {
-    let mut next = Vec::new(alloc);
-    for part in rows.chunks(3) {
-        if let [one, two, three] = part {
-            let (sums, carries) = two_of(alloc, netlist, bits, [one, two, three])?;
-            next.push(sums)?;
-            next.push(carries)?;
-        } else {
-            for row in part {
-                next.push(row.copied()?)?;
+impl Rows {
+    /// Those of columns, where the literals of a column come one behind the other. What lies in the
+    /// highest ones alone counts as ones, if there are carries in whose place these come.
+    fn of(alloc: Global, mut columns: Columns) -> Result<Rows, AllocError> {
+        let bits = columns.len();
+        let mut rows = Vec::new(alloc);
+        let mut ones = Vec::new(alloc);
+        for _ in 0..columns.highest() {
+            let carries = rows.len().saturating_sub(1);
+            if columns.weight_of_highest() <= carries.saturating_sub(ones.len()) {
+                columns.take_highest(&mut ones)?;
+                continue;
+            }
+            let mut row = Row::new(alloc, bits)?;
+            for column in 0..bits {
+                row.put(column, columns.take(column));
+            }
+            rows.push(row)?;
+        }
+        Ok(Rows {
+            alloc,
+            bits,
+            rows,
+            ones,
+        })
+    }
+
+    /// A literal that counts one.
+    fn one(&mut self) -> u32 {
+        self.ones.pop().unwrap_or(FALSE)
+    }
+
+    /// The two rows that come of three.
+    fn two_of(
+        &mut self,
+        netlist: &mut Netlist,
+        one: &Row,
+        two: &Row,
+        three: &Row,
+    ) -> Result<(Row, Row), AllocError> {
+        let mut sums = Row::new(self.alloc, self.bits)?;
+        let mut carries = Row::new(self.alloc, self.bits)?;
+        carries.put(0, self.one());
+        for column in 0..self.bits {
+            let (sum, carry) = netlist.add(one.at(column), two.at(column), three.at(column))?;
+            sums.put(column, sum);
+            carries.put(column.saturating_add(1), carry);
+        }
+        Ok((sums, carries))
+    }
+
+    /// The rows that come of threes of these, where those that are left go on.
+    fn layer(&mut self, netlist: &mut Netlist) -> Result<Vec<Row>, AllocError> {
+        let mut next = Vec::new(self.alloc);
+        let mut rows = Vec::new(self.alloc);
+        for row in &self.rows {
+            rows.push(row.copied()?)?;
+        }
+        for part in rows.chunks(3) {
+            if let [one, two, three] = part {
+                let (sums, carries) = self.two_of(netlist, one, two, three)?;
+                next.push(sums)?;
+                next.push(carries)?;
+            } else {
+                for row in part {
+                    next.push(row.copied()?)?;
+                }
             }
         }
+        Ok(next)
     }
-    Ok(next)
-}
 
-/// The two rows that are left of rows by threes, by columns.
-fn by_threes(
-    alloc: Global,
-    netlist: &mut Netlist,
-    partial: &Partial,
-) -> Result<Columns, AllocError> {
-    let mut rows = partial.summands()?;
-    for _ in 0..rows.len() {
-        if rows.len() > 2 {
-            rows = layer_of(alloc, netlist, partial.bits, &rows)?;
+    /// The two rows that are left of these by threes, by columns, and what counts one.
+    fn by_threes(mut self, netlist: &mut Netlist) -> Result<Columns, AllocError> {
+        for _ in 0..self.rows.len() {
+            if self.rows.len() > 2 {
+                self.rows = self.layer(netlist)?;
+            }
         }
+        let mut left = Columns::of(self.alloc, self.bits, &self.rows)?;
+        left.put(0, self.one())?;
+        Ok(left)
     }
-    Columns::of(alloc, partial.bits, &rows)
 }
 
 /// What rows come to, the lowest literal first. Fails where memory is refused.
@@ -320,7 +397,7 @@ pub(crate) fn added_up(
         Tree::Saved => columns.saved(netlist)?,
         Tree::Layers => columns.in_layers(netlist)?,
         Tree::Late => columns.late(netlist)?,
-        Tree::Threes => by_threes(alloc, netlist, partial)?,
+        Tree::Threes => Rows::of(alloc, Columns::one_by_one(alloc, partial)?)?.by_threes(netlist)?,
         Tree::Columns => {
             columns.lower(netlist, 1)?;
             columns

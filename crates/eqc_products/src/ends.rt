@@ -133,11 +133,13 @@ impl Spans {
     }
 }
 
-/// The sum of two literals of each column, the lowest first, by a tree of prefixes.
+/// The sum of two literals of each column, the lowest first, and of a carry into the first one, by
+/// a tree of prefixes.
 pub(crate) fn prefixed(
     alloc: Global,
     netlist: &mut Netlist,
     columns: &[(u32, u32)],
+    carry: u32,
     end: End,
 ) -> Result<Vec<u32>, AllocError> {
     let mut spans = Spans {
@@ -147,8 +149,10 @@ pub(crate) fn prefixed(
     for column in 0..columns.len() {
         let (x, y) = columns[column];
         let one = netlist.xor(x, y)?;
+        let both = netlist.and(x, y)?;
+        let carried = netlist.and(one, if column == 0 { carry } else { FALSE })?;
         spans.all.push(Span {
-            makes: netlist.and(x, y)?,
+            makes: netlist.or(both, carried)?,
             passes: one,
             lowest: column,
         })?;
@@ -157,7 +161,12 @@ pub(crate) fn prefixed(
     spans.join_all(netlist, end)?;
     let mut word = Vec::with_capacity(alloc, columns.len())?;
     for column in 0..passes.len() {
-        word.push(netlist.xor(passes[column], spans.carry(column))?)?;
+        let carried = if column == 0 {
+            carry
+        } else {
+            spans.carry(column)
+        };
+        word.push(netlist.xor(passes[column], carried)?)?;
     }
     Ok(word)
 }

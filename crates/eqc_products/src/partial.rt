@@ -11,8 +11,9 @@ use std::alloc::{AllocError, Global};
 pub(crate) enum Digits {
     /// Bit by bit.
     Plain,
-    /// Bit by bit, where rows go on with their signs.
-    Extended,
+    /// Bit by bit, in rows that have a literal in each column, as yosys makes them: they go on with
+    /// their signs.
+    Whole,
     /// By two bits at a time, as a digit from -2 to 2 (Booth's recoding of radix 4).
     Recoded,
 }
@@ -25,8 +26,9 @@ pub(crate) enum Order {
     /// The first product or word, and then the others from the last one on: so a chain of sums
     /// comes out where each is merged into the next one (as yosys does it).
     Merged,
-    /// As they come, where each column's literals come one behind the other.
-    Narrow,
+    /// As a sum of single rows comes out so: without what is always false in these, and those that
+    /// are taken away behind the others, merged.
+    Single,
 }
 
 /// The place of the first one of so many, and of the others from the last one on.
@@ -34,47 +36,87 @@ fn merged(k: usize, count: usize) -> usize {
     if k == 0 { 0 } else { count.saturating_sub(k) }
 }
 
-/// Literals, each of which counts in its column: `FALSE` where there is none.
+/// What a row is of. Those that come first are added up first.
+#[derive(Clone, Copy, PartialEq, Eq)]
+enum Kind {
+    /// Of an input by itself, which was there before all rows.
+    Input,
+    /// Of a product or a word.
+    Usual,
+    /// Of one that is taken away, complemented as a whole.
+    Complement,
+}
+
+/// Literals, each of which counts in its column: none where a row has nothing.
 #[derive(Drop)]
 pub(crate) struct Row {
-    /// Which product or word it is of.
+    kind: Kind,
+    /// Which product or word it is of, and which row of that.
     part: usize,
-    literals: Vec<u32>,
+    place: usize,
+    literals: Vec<Option<u32>>,
 }
 
 impl Row {
     /// So many columns without a literal. Fails where memory is refused.
     pub(crate) fn new(alloc: Global, bits: usize) -> Result<Row, AllocError> {
         Ok(Row {
+            kind: Kind::Usual,
             part: 0,
-            literals: vec![in alloc; FALSE; bits]?,
+            place: 0,
+            literals: vec![in alloc; None; bits]?,
         })
     }
 
     /// The same row once more. Fails where memory is refused.
     pub(crate) fn copied(&self) -> Result<Row, AllocError> {
         Ok(Row {
+            kind: self.kind,
             part: self.part,
+            place: self.place,
             literals: self.literals.clone()?,
         })
     }
 
+    /// The literal in a column, if there is one.
+    pub(crate) fn entry(&self, column: usize) -> Option<u32> {
+        match self.literals.get(column) {
+            None => None,
+            Some(entry) => *entry,
+        }
+    }
+
+    /// The literal in a column, which is false where there is none.
     pub(crate) fn at(&self, column: usize) -> u32 {
-        self.literals.get(column).copied().unwrap_or(FALSE)
+        self.entry(column).unwrap_or(FALSE)
     }
 
     /// Puts a literal into a column, if there is one so high.
     pub(crate) fn put(&mut self, column: usize, literal: u32) {
         if let Some(entry) = self.literals.get_mut(column) {
-            *entry = literal;
+            *entry = Some(literal);
         }
     }
-}
 
-/// Puts a literal into a column of one of several rows, if it is there.
-fn put(rows: &mut Vec<Row>, row: usize, column: usize, literal: u32) {
-    if let Some(row) = rows.get_mut(row) {
-        row.put(column, literal);
+    /// The complement of a row as a whole, which counts as less than nothing by the row, less one.
+    fn complement(&mut self) {
+        self.kind = Kind::Complement;
+        for column in 0..self.literals.len() {
+            self.put(column, negated(self.at(column)));
+        }
+    }
+
+    /// Where it comes among others in an order.
+    fn key(&self, order: Order, parts: usize) -> (u8, usize, usize) {
+        match (order, self.kind) {
+            (_, Kind::Input) => (0, 0, 0),
+            (Order::Ascending, _) => (1, 0, 0),
+            (Order::Merged, _) => (1, merged(self.part, parts), 0),
+            (Order::Single, Kind::Usual) => (1, 0, 0),
+            (Order::Single, Kind::Complement) => {
+                (2, self.part, merged(self.place, self.literals.len()))
+            }
+        }
     }
 }
 
@@ -232,11 +274,7 @@ impl Partial {
         let count = self.rows.len();
         let mut keys = Vec::with_capacity(self.alloc, count)?;
         for k in 0..count {
-            let part = self.rows[k].part;
-            keys.push(match order {
-                Order::Ascending | Order::Narrow => (k, k),
-                Order::Merged => (merged(part, self.part), k),
-            })?;
+            keys.push((self.rows[k].key(order, self.part), k))?;
         }
         keys.sort_unstable();
         let mut rows = Vec::with_capacity(self.alloc, count)?;
@@ -276,22 +314,63 @@ impl Partial {
         Ok(())
     }
 
-    /// Puts the same rows, each of which goes on with its sign to the last column; one that is taken
-    /// away is its complement, and one more.
-    fn put_extended(&mut self, netlist: &mut Netlist, factors: &Factors) -> Result<(), AllocError> {
-        let Factors { first, second, .. } = factors;
+    /// Takes the row that was made last away in place of counting it: as its complement, and one
+    /// more.
+    fn take_away(&mut self, mut row: Row) -> Result<(), AllocError> {
+        row.complement();
+        self.put_number(1);
+        self.rows.push(row)?;
+        Ok(())
+    }
+
+    /// Puts the sign of a factor, by which its row was complemented, where it counts one more.
+    fn put_sign(
+        &mut self,
+        column: usize,
+        literal: u32,
+        is_negative: bool,
+    ) -> Result<(), AllocError> {
+        let mut row = self.row()?;
+        row.put(column, literal);
+        if is_negative {
+            return self.take_away(row);
+        }
+        row.kind = Kind::Input;
+        self.rows.push(row)?;
+        Ok(())
+    }
+
+    /// Puts the same rows, each with a literal in all columns: that of a sign has the other word's
+    /// complement, and its sign once more.
+    fn put_whole(&mut self, netlist: &mut Netlist, factors: &Factors) -> Result<(), AllocError> {
+        let Factors {
+            first,
+            second,
+            is_negative,
+            ..
+        } = factors;
         for i in 0..first.len() {
             let from = factors.lowest.saturating_add(i);
-            let is_negative = factors.is_row_negative(i);
-            let mut row = self.row()?;
-            for column in from..self.bits {
-                let both = netlist.and(first.bit(i), second.bit(column - from))?;
-                row.put(column, negated_if(both, is_negative));
+            let is_sign = first.is_sign(i);
+            let mut row = Row {
+                place: i,
+                ..self.row()?
+            };
+            for column in 0..self.bits {
+                let bit = match column.checked_sub(from) {
+                    None => FALSE,
+                    Some(j) => negated_if(second.bit(j), is_sign),
+                };
+                row.put(column, netlist.and(first.bit(i), bit)?);
             }
-            if is_negative && from < 128 {
-                self.number = self.number.wrapping_add(1u128 << from);
+            if *is_negative {
+                self.take_away(row)?;
+            } else {
+                self.rows.push(row)?;
             }
-            self.rows.push(row)?;
+            if is_sign {
+                self.put_sign(from, first.bit(i), *is_negative)?;
+            }
         }
         Ok(())
     }
@@ -351,7 +430,7 @@ impl Partial {
         let factors = Factors::of(self.alloc, inputs, product, is_swapped)?;
         match digits {
             Digits::Plain => self.put_plain(netlist, &factors)?,
-            Digits::Extended => self.put_extended(netlist, &factors)?,
+            Digits::Whole => self.put_whole(netlist, &factors)?,
             Digits::Recoded => self.put_recoded(netlist, &factors)?,
         }
         self.part = self.part.saturating_add(1);
@@ -397,6 +476,38 @@ impl Partial {
         Ok(())
     }
 
+    /// The same where those that are taken away are in whole rows.
+    pub(crate) fn put_whole_singles(
+        &mut self,
+        inputs: &[u32],
+        singles: &[u128],
+    ) -> Result<(), AllocError> {
+        let mut counted = singles.to_vec(self.alloc)?;
+        let mut others = Partial::new(self.alloc, self.bits);
+        let is_some_taken_away = singles.iter().any(|times| matches!(
+            column_of(*times, self.bits),
+            Some((_, true))
+        ));
+        for place in 0..counted.len().min(inputs.len()) {
+            if let Some((column, is_taken_away)) = column_of(counted[place], self.bits) {
+                // In the last column nothing tells what is taken away from what isn't.
+                let is_last = (column as usize).saturating_add(1) == self.bits;
+                if is_taken_away || is_last && is_some_taken_away {
+                    others.put_single(0, column as usize, inputs[place])?;
+                    counted[place] = 0;
+                }
+            }
+        }
+        for row in &others.rows {
+            let part = self.part;
+            self.take_away(Row {
+                part,
+                ..row.copied()?
+            })?;
+        }
+        self.put_singles(inputs, &counted)
+    }
+
     /// Counts a number in.
     pub(crate) fn put_number(&mut self, number: u128) {
         self.number = self.number.wrapping_add(number);
@@ -411,38 +522,25 @@ impl Partial {
         }
     }
 
-    /// The rows in which each column's literals come one behind the other: first that of the number,
-    /// and then what the rows have.
-    fn narrow_summands(&self) -> Result<Vec<Row>, AllocError> {
-        let mut most = 0usize;
-        let mut rows = Vec::with_capacity(self.alloc, self.rows.len())?;
-        for _ in 0..self.rows.len().saturating_add(1) {
-            rows.push(Row::new(self.alloc, self.bits)?)?;
+    /// The literals of a column, one behind the other: first that of the number, and then what rows
+    /// have there.
+    pub(crate) fn column(&self, column: usize) -> Result<Vec<u32>, AllocError> {
+        let mut literals = Vec::new(self.alloc);
+        if self.digit(column) == TRUE {
+            literals.push(TRUE)?;
         }
-        for column in 0..self.bits {
-            let mut next = 0usize;
-            if self.digit(column) == TRUE {
-                put(&mut rows, 0, column, TRUE);
-                next = 1;
-            }
-            for row in &self.rows {
-                let literal = row.at(column);
-                if literal != FALSE {
-                    put(&mut rows, next, column, literal);
-                    next = next.saturating_add(1);
+        for row in &self.rows {
+            if let Some(literal) = row.entry(column) {
+                if literal != FALSE || self.order != Order::Single {
+                    literals.push(literal)?;
                 }
             }
-            most = most.max(next);
         }
-        rows.truncate(most);
-        Ok(rows)
+        Ok(literals)
     }
 
     /// The rows that are added up whole: first that of the number, if it isn't 0.
     pub(crate) fn summands(&self) -> Result<Vec<Row>, AllocError> {
-        if self.order == Order::Narrow {
-            return self.narrow_summands();
-        }
         let mut rows = Vec::with_capacity(self.alloc, self.rows.len())?;
         if self.number & modulus_of(self.bits) != 0 {
             let mut row = self.row()?;

@@ -32,7 +32,7 @@ struct Architecture {
 /// How sums of plain rows are made, and of recoded ones.
 static TREES: &[(Digits, Tree)] = &[
     (Digits::Plain, Tree::Threes),
-    (Digits::Extended, Tree::Threes),
+    (Digits::Whole, Tree::Threes),
     (Digits::Plain, Tree::Array),
     (Digits::Plain, Tree::Saved),
     (Digits::Plain, Tree::Late),
@@ -44,16 +44,6 @@ static TREES: &[(Digits, Tree)] = &[
     (Digits::Recoded, Tree::Threes),
     (Digits::Recoded, Tree::Columns),
 ];
-
-/// The first architecture that is looked at.
-const FIRST: Architecture = Architecture {
-    digits: Digits::Plain,
-    is_swapped: false,
-    are_singles_first: false,
-    order: Order::Ascending,
-    tree: Tree::Threes,
-    end: End::Chain,
-};
 
 /// An array of plain rows.
 const ARRAY: Architecture = Architecture {
@@ -104,12 +94,16 @@ struct Task<'a> {
 struct Seen {
     patterns: Vec<u128>,
     values: Vec<u128>,
+    /// The architecture that is most like the word of those that were looked at.
+    best: Option<Best>,
 }
 
 /// The architecture that is most like a word of those that were looked at.
-#[derive(Clone, Copy)]
+#[derive(Drop)]
 struct Best {
     architecture: Architecture,
+    /// The values of the sums of its adders, in order.
+    sums: Vec<u128>,
     /// How many of a thousand sums of its adders are among what the word is made of.
     likeness: u32,
     /// How many of a thousand literals of its adders are.
@@ -140,37 +134,84 @@ impl Seen {
             }
         }
         values.sort_unstable();
-        Ok(Seen { patterns, values })
+        Ok(Seen {
+            patterns,
+            values,
+            best: None,
+        })
     }
 
-    /// How many of a thousand literals of a netlist are among them.
+    /// How many of a thousand literals of a netlist are among them, of those that aren't constant
+    /// under all assignments: these tell nothing.
     fn share(&self, values: &Values, literals: &[u32]) -> u32 {
         let mut found = 0u64;
+        let mut all = 0u64;
         for literal in literals {
             let value = plain(values.at(*literal));
-            found = found.saturating_add(u64::from(self.values.binary_search(&value).is_ok()));
+            if value != 0 {
+                let is_found = self.values.binary_search(&value).is_ok();
+                found = found.saturating_add(u64::from(is_found));
+                all = all.saturating_add(1);
+            }
         }
-        let all = (literals.len() as u64).max(1);
-        (found.saturating_mul(1_000) / all).min(1_000) as u32
+        (found.saturating_mul(1_000) / all.max(1)).min(1_000) as u32
     }
 
-    /// Takes an architecture as the best one, if more of the sums of its netlist are among them.
-    /// Fails where memory is refused.
+    /// How many values there are beyond others, and how many of these are among them.
+    fn beyond(&self, values: &[u128], others: &[u128]) -> (u64, u64) {
+        let mut found = 0u64;
+        let mut all = 0u64;
+        for value in values {
+            if others.binary_search(value).is_err() {
+                let is_found = self.values.binary_search(value).is_ok();
+                found = found.saturating_add(u64::from(is_found));
+                all = all.saturating_add(1);
+            }
+        }
+        (found, all)
+    }
+
+    /// Whether of the sums that one netlist has beyond another one a larger part is among them than
+    /// the other way round. What both have doesn't tell: netlists of different architectures share
+    /// sums.
+    fn are_nearer(&self, sums: &[u128], others: &[u128]) -> bool {
+        let (found, all) = self.beyond(sums, others);
+        let (found_there, all_there) = self.beyond(others, sums);
+        // One more of two each: where there are few a single one says little.
+        let one = found.saturating_mul(2).saturating_add(1);
+        let other = found_there.saturating_mul(2).saturating_add(1);
+        one.saturating_mul(all_there.saturating_add(1))
+            > other.saturating_mul(all.saturating_add(1))
+    }
+
+    /// Takes an architecture as the best one, if it is the first one or its sums are nearer. Fails
+    /// where memory is refused.
     fn compare(
-        &self,
+        &mut self,
         task: &Task<'_>,
         netlist: &Netlist,
         architecture: Architecture,
-        best: &mut Best,
     ) -> Result<(), AllocError> {
         let values = task.values(netlist, &self.patterns)?;
-        let likeness = self.share(&values, netlist.sums());
-        if likeness > best.likeness {
-            *best = Best {
+        let mut sums = Vec::with_capacity(task.alloc, netlist.sums().len())?;
+        for literal in netlist.sums() {
+            let value = plain(values.at(*literal));
+            if value != 0 {
+                sums.push(value)?;
+            }
+        }
+        sums.sort_unstable();
+        let is_better = match &self.best {
+            None => true,
+            Some(best) => self.are_nearer(&sums, &best.sums),
+        };
+        if is_better {
+            self.best = Some(Best {
                 architecture,
-                likeness,
+                sums,
+                likeness: self.share(&values, netlist.sums()),
                 whole: self.share(&values, netlist.ends()),
-            };
+            });
         }
         Ok(())
     }
@@ -185,6 +226,20 @@ impl<'a> Task<'a> {
             &self.quadratic.variables,
             patterns,
         )
+    }
+
+    /// Puts the inputs that count by themselves.
+    fn put_singles(
+        &self,
+        partial: &mut Partial,
+        inputs: &[u32],
+        digits: Digits,
+    ) -> Result<(), AllocError> {
+        if digits == Digits::Whole {
+            partial.put_whole_singles(inputs, &self.summands.singles)
+        } else {
+            partial.put_singles(inputs, &self.summands.singles)
+        }
     }
 
     /// The netlist of an architecture, with its word.
@@ -203,7 +258,7 @@ impl<'a> Task<'a> {
         }
         let mut partial = Partial::new(self.alloc, self.quadratic.bits);
         if architecture.are_singles_first {
-            partial.put_singles(&inputs, &self.summands.singles)?;
+            self.put_singles(&mut partial, &inputs, architecture.digits)?;
         }
         for product in &self.summands.products {
             partial.put_product(
@@ -215,7 +270,7 @@ impl<'a> Task<'a> {
             )?;
         }
         if !architecture.are_singles_first {
-            partial.put_singles(&inputs, &self.summands.singles)?;
+            self.put_singles(&mut partial, &inputs, architecture.digits)?;
         }
         partial.order(architecture.order)?;
         partial.put_number(self.quadratic.constant);
@@ -235,17 +290,13 @@ impl<'a> Task<'a> {
         let has_singles = self.summands.singles.iter().any(|times| *times != 0);
         let products = &self.summands.products;
         let has_parts = products.len() > 1 || has_singles;
-        let has_signs = products.iter().any(|it| it.is_negative
-            || it.first.is_signed
-            || it.second.is_signed);
         let mut all = Vec::new(self.alloc);
         for (digits, tree) in TREES {
             for is_swapped in [false, true] {
                 for are_singles_first in [false, true] {
-                    for order in [Order::Ascending, Order::Merged, Order::Narrow] {
-                        let is_usual = order == Order::Ascending || *tree == Tree::Threes;
-                        let is_other = (order != Order::Merged || has_parts)
-                            && (*digits != Digits::Extended || has_signs);
+                    for order in [Order::Ascending, Order::Merged, Order::Single] {
+                        let is_usual = order == Order::Ascending || *digits == Digits::Whole;
+                        let is_other = order != Order::Merged || has_parts;
                         if is_usual && is_other && (has_singles || !are_singles_first) {
                             all.push(Architecture {
                                 digits: *digits,
@@ -263,21 +314,14 @@ impl<'a> Task<'a> {
         Ok(all)
     }
 
-    /// The architectures that are most like two words, in turn, by the sums of adders.
-    fn best(&self, seen: [&Seen; 2]) -> Result<[Best; 2], AllocError> {
-        let none = Best {
-            architecture: FIRST,
-            likeness: 0,
-            whole: 0,
-        };
-        let mut first = none;
-        let mut second = none;
+    /// Compares all architectures with two words, by the sums of adders.
+    fn compare(&self, one: &mut Seen, other: &mut Seen) -> Result<(), AllocError> {
         for architecture in &self.architectures()? {
             let (netlist, _) = self.made(*architecture)?;
-            seen[0].compare(self, &netlist, *architecture, &mut first)?;
-            seen[1].compare(self, &netlist, *architecture, &mut second)?;
+            one.compare(self, &netlist, *architecture)?;
+            other.compare(self, &netlist, *architecture)?;
         }
-        Ok([first, second])
+        Ok(())
     }
 
     /// The same architecture with the tree of prefixes at its end of which a word has most spans
@@ -308,18 +352,21 @@ impl<'a> Task<'a> {
         Ok(found)
     }
 
-    /// The netlist that is most like a word.
-    fn reference(&self, seen: &Seen, best: Best) -> Result<Reference, AllocError> {
+    /// The netlist that is most like a word, if one was looked at.
+    fn reference(&self, seen: &Seen) -> Result<Option<Reference>, AllocError> {
+        let Some(best) = &seen.best else {
+            return Ok(None);
+        };
         let architecture = self.with_end(seen, best.architecture)?;
         let (netlist, word) = self.made(architecture)?;
-        Ok(Reference {
+        Ok(Some(Reference {
             made: Made {
                 graph: netlist.into_graph(),
                 word,
             },
             likeness: best.likeness,
             whole: best.whole,
-        })
+        }))
     }
 }
 
@@ -370,13 +417,16 @@ pub fn make_references(
         quadratic: &quadratic,
         summands: &summands,
     };
-    let one = Seen::of(alloc, graph, first, &quadratic.variables)?;
-    let other = Seen::of(alloc, graph, second, &quadratic.variables)?;
-    let [best, best_other] = task.best([&one, &other])?;
-    Ok(Some(References {
-        first: task.reference(&one, best)?,
-        second: task.reference(&other, best_other)?,
-    }))
+    let mut one = Seen::of(alloc, graph, first, &quadratic.variables)?;
+    let mut other = Seen::of(alloc, graph, second, &quadratic.variables)?;
+    task.compare(&mut one, &mut other)?;
+    let Some(first) = task.reference(&one)? else {
+        return Ok(None);
+    };
+    let Some(second) = task.reference(&other)? else {
+        return Ok(None);
+    };
+    Ok(Some(References { first, second }))
 }
 
 /// An array made anew for two words of a graph, the lowest literal first, in whatever architectures
