@@ -2,7 +2,8 @@
 //! apart.
 
 use crate::ends::same;
-use crate::multipliers::{Architecture, Factors, product};
+use crate::factors::Factors;
+use crate::multipliers::{Architecture, product};
 use eqc_adders::Limits;
 use eqc_numbers::{Words, are_equal_anew, are_equal_by_arrays};
 use eqc_sweep::{Effort, Sweep};
@@ -47,6 +48,9 @@ static PRODUCTS: &[(&str, Factors, Architecture, Architecture, usize, bool)] = &
     ("8 bits, mapped, against rows", Factors::Two(8), Architecture::Mapped, Architecture::Array, 0, true),
     ("8 bits, recoded, against mapped", Factors::Two(8), Architecture::Booth, Architecture::Mapped, 0, true),
     ("6 bits, mapped, a wrong carry", Factors::Two(6), Architecture::Mapped, Architecture::Array, 16, false),
+    ("6 bits, taken away, in mapped rows", Factors::TakenAway(6), Architecture::Rows, Architecture::Array, 0, true),
+    ("6 bits, taken away, a wrong carry", Factors::TakenAway(6), Architecture::Rows, Architecture::Array, 16, false),
+    ("8 bits, with signs, in mapped rows", Factors::Signed(8), Architecture::Rows, Architecture::Array, 0, true),
     ("6 bits, as they were made", Factors::Two(6), Architecture::Columns, Architecture::Array, 0, false),
 ];
 

@@ -1,7 +1,9 @@
 //! Which products are shown equal inside a design.
 
 use crate::ends::same;
-use crate::multipliers::{Architecture, Factors, chosen, product};
+use crate::factors::Factors;
+use crate::gates::chosen;
+use crate::multipliers::{Architecture, product};
 use eqc_adders::Limits;
 use eqc_graph::Graph;
 use eqc_numbers::{Words, are_equal_in_cases, are_shown_equal, find_lookalikes};

@@ -1,7 +1,9 @@
 //! Which products are shown equal.
 
 use crate::ends::same;
-use crate::multipliers::{Architecture, Factors, and, product, xor};
+use crate::factors::Factors;
+use crate::gates::{and, xor};
+use crate::multipliers::{Architecture, product};
 use eqc_adders::{Limits, Sums, has_adders};
 use eqc_graph::negated;
 use eqc_numbers::{Shape, copy_shaped, words_of};
