@@ -56,6 +56,11 @@ pub(crate) fn column_of(times: u128, bits: usize) -> Option<(u32, bool)> {
     }
 }
 
+/// Whether what counts so often is taken away.
+pub(crate) fn is_taken_away(times: u128, bits: usize) -> bool {
+    matches!(column_of(times, bits), Some((_, true)))
+}
+
 impl Rest {
     fn new(alloc: Global, quadratic: &Quadratic) -> Result<Rest, AllocError> {
         let count = quadratic.variables.len();
@@ -134,21 +139,13 @@ impl Rest {
         Ok(places)
     }
 
-    /// Whether what two inputs count together is taken away.
-    fn is_taken_away(&self, one: usize, other: usize) -> bool {
-        match column_of(self.at(one, other), self.bits) {
-            Some((_, is_taken_away)) => is_taken_away,
-            None => false,
-        }
-    }
-
     /// Whether of two inputs beside a third one the last one is taken away and the first one isn't,
     /// or the other way round. In the last column nothing tells the two apart.
     fn is_other_sign(&self, last: usize, first: usize, by: usize) -> bool {
         match column_of(self.at(last, by), self.bits) {
-            Some((column, is_taken_away)) => {
+            Some((column, is_less)) => {
                 (column as usize).saturating_add(1) < self.bits
-                    && is_taken_away != self.is_taken_away(first, by)
+                    && is_less != is_taken_away(self.at(first, by), self.bits)
             }
             None => false,
         }
@@ -172,7 +169,7 @@ impl Rest {
             return 0;
         }
         let times = 1u128 << column;
-        if product.is_taken_away(i, j) {
+        if product.is_pair_taken_away(i, j) {
             0u128.wrapping_sub(times) & modulus_of(self.bits)
         } else {
             times
@@ -312,7 +309,7 @@ impl Rest {
                 first: self.word_from(alloc, zero)?,
                 second: self.word_from(alloc, zero)?,
                 lowest,
-                is_negative: self.is_taken_away(x, y),
+                is_negative: is_taken_away(self.at(x, y), self.bits),
             };
             if self.take_square(&square) {
                 return Ok(Some(square));
@@ -334,8 +331,13 @@ impl Product {
         self.first.places.first().copied() == self.second.places.first().copied()
     }
 
+    /// Whether some of its bits count as less than nothing.
+    pub(crate) fn takes_away(&self) -> bool {
+        self.is_negative || self.first.is_signed || self.second.is_signed
+    }
+
     /// Whether the conjunction of two bits counts as less than nothing.
-    pub(crate) fn is_taken_away(&self, i: usize, j: usize) -> bool {
+    pub(crate) fn is_pair_taken_away(&self, i: usize, j: usize) -> bool {
         let is_signed = self.first.is_last(i) != self.second.is_last(j);
         is_signed != self.is_negative
     }

@@ -1,8 +1,8 @@
 //! The bits that a sum of products adds up, in rows: one for each bit or digit of a factor.
 
-use crate::factors::{Factor, Product, column_of};
+use crate::factors::{Factor, Product, column_of, is_taken_away};
 use crate::netlist::{FALSE, Netlist, TRUE};
-use crate::quadratic::modulus_of;
+use crate::rows::{Kind, Order, Row};
 use eqc_graph::{negated, negated_if};
 use std::alloc::{AllocError, Global};
 
@@ -16,108 +16,6 @@ pub(crate) enum Digits {
     Whole,
     /// By two bits at a time, as a digit from -2 to 2 (Booth's recoding of radix 4).
     Recoded,
-}
-
-/// In which order rows are added up.
-#[derive(Clone, Copy, PartialEq, Eq)]
-pub(crate) enum Order {
-    /// As they come.
-    Ascending,
-    /// The first product or word, and then the others from the last one on: so a chain of sums
-    /// comes out where each is merged into the next one (as yosys does it).
-    Merged,
-    /// As a sum of single rows comes out so: without what is always false in these, and those that
-    /// are taken away behind the others, merged.
-    Single,
-}
-
-/// The place of the first one of so many, and of the others from the last one on.
-fn merged(k: usize, count: usize) -> usize {
-    if k == 0 { 0 } else { count.saturating_sub(k) }
-}
-
-/// What a row is of. Those that come first are added up first.
-#[derive(Clone, Copy, PartialEq, Eq)]
-enum Kind {
-    /// Of an input by itself, which was there before all rows.
-    Input,
-    /// Of a product or a word.
-    Usual,
-    /// Of one that is taken away, complemented as a whole.
-    Complement,
-}
-
-/// Literals, each of which counts in its column: none where a row has nothing.
-#[derive(Drop)]
-pub(crate) struct Row {
-    kind: Kind,
-    /// Which product or word it is of, and which row of that.
-    part: usize,
-    place: usize,
-    literals: Vec<Option<u32>>,
-}
-
-impl Row {
-    /// So many columns without a literal. Fails where memory is refused.
-    pub(crate) fn new(alloc: Global, bits: usize) -> Result<Row, AllocError> {
-        Ok(Row {
-            kind: Kind::Usual,
-            part: 0,
-            place: 0,
-            literals: vec![in alloc; None; bits]?,
-        })
-    }
-
-    /// The same row once more. Fails where memory is refused.
-    pub(crate) fn copied(&self) -> Result<Row, AllocError> {
-        Ok(Row {
-            kind: self.kind,
-            part: self.part,
-            place: self.place,
-            literals: self.literals.clone()?,
-        })
-    }
-
-    /// The literal in a column, if there is one.
-    pub(crate) fn entry(&self, column: usize) -> Option<u32> {
-        match self.literals.get(column) {
-            None => None,
-            Some(entry) => *entry,
-        }
-    }
-
-    /// The literal in a column, which is false where there is none.
-    pub(crate) fn at(&self, column: usize) -> u32 {
-        self.entry(column).unwrap_or(FALSE)
-    }
-
-    /// Puts a literal into a column, if there is one so high.
-    pub(crate) fn put(&mut self, column: usize, literal: u32) {
-        if let Some(entry) = self.literals.get_mut(column) {
-            *entry = Some(literal);
-        }
-    }
-
-    /// The complement of a row as a whole, which counts as less than nothing by the row, less one.
-    fn complement(&mut self) {
-        self.kind = Kind::Complement;
-        for column in 0..self.literals.len() {
-            self.put(column, negated(self.at(column)));
-        }
-    }
-
-    /// Where it comes among others in an order.
-    fn key(&self, order: Order, parts: usize) -> (u8, usize, usize) {
-        match (order, self.kind) {
-            (_, Kind::Input) => (0, 0, 0),
-            (Order::Ascending, _) => (1, 0, 0),
-            (Order::Merged, _) => (1, merged(self.part, parts), 0),
-            (Order::Single, Kind::Usual) => (1, 0, 0),
-            (Order::Single, Kind::Complement) => {
-                (2, self.part, merged(self.place, self.literals.len()))
-            }
-        }
-    }
 }
 
 /// The literals of a factor, the lowest first.
@@ -288,11 +186,11 @@ impl Partial {
     }
 
     /// A literal as it counts in a column: one that is taken away is its complement, less one.
-    fn counted(&mut self, column: usize, literal: u32, is_taken_away: bool) -> u32 {
-        if is_taken_away && column < 128 {
+    fn counted(&mut self, column: usize, literal: u32, is_less: bool) -> u32 {
+        if is_less && column < 128 {
             self.number = self.number.wrapping_sub(1u128 << column);
         }
-        negated_if(literal, is_taken_away)
+        negated_if(literal, is_less)
     }
 
     /// Puts the rows of a product, one for each bit of the first word.
@@ -305,8 +203,8 @@ impl Partial {
                 let column = from.saturating_add(j);
                 if column < self.bits {
                     let both = netlist.and(first.bit(i), second.bit(j))?;
-                    let is_taken_away = factors.is_row_negative(i) != second.is_sign(j);
-                    row.put(column, self.counted(column, both, is_taken_away));
+                    let is_less = factors.is_row_negative(i) != second.is_sign(j);
+                    row.put(column, self.counted(column, both, is_less));
                 }
             }
             self.rows.push(row)?;
@@ -314,8 +212,7 @@ impl Partial {
         Ok(())
     }
 
-    /// Takes the row that was made last away in place of counting it: as its complement, and one
-    /// more.
+    /// Puts the complement of a row and counts one more, which takes the row away.
     fn take_away(&mut self, mut row: Row) -> Result<(), AllocError> {
         row.complement();
         self.put_number(1);
@@ -456,13 +353,22 @@ impl Partial {
         &mut self,
         inputs: &[u32],
         singles: &[u128],
+        digits: Digits,
     ) -> Result<(), AllocError> {
+        match digits {
+            Digits::Plain | Digits::Recoded => self.put_counted_singles(inputs, singles),
+            Digits::Whole => self.put_whole_singles(inputs, singles),
+        }
+    }
+
+    /// Puts them where the complement counts of what is taken away.
+    fn put_counted_singles(&mut self, inputs: &[u32], singles: &[u128]) -> Result<(), AllocError> {
         let from = self.rows.len();
         for place in 0..singles.len().min(inputs.len()) {
             let times = singles[place];
-            if let Some((column, is_taken_away)) = column_of(times, self.bits) {
+            if let Some((column, is_less)) = column_of(times, self.bits) {
                 let column = column as usize;
-                let literal = self.counted(column, inputs[place], is_taken_away);
+                let literal = self.counted(column, inputs[place], is_less);
                 self.put_single(from, column, literal)?;
                 continue;
             }
@@ -476,23 +382,16 @@ impl Partial {
         Ok(())
     }
 
-    /// The same where those that are taken away are in whole rows.
-    pub(crate) fn put_whole_singles(
-        &mut self,
-        inputs: &[u32],
-        singles: &[u128],
-    ) -> Result<(), AllocError> {
+    /// Puts them where those that are taken away are in whole rows.
+    fn put_whole_singles(&mut self, inputs: &[u32], singles: &[u128]) -> Result<(), AllocError> {
         let mut counted = singles.to_vec(self.alloc)?;
         let mut others = Partial::new(self.alloc, self.bits);
-        let is_some_taken_away = singles.iter().any(|times| matches!(
-            column_of(*times, self.bits),
-            Some((_, true))
-        ));
+        let is_some_taken_away = singles.iter().any(|times| is_taken_away(*times, self.bits));
         for place in 0..counted.len().min(inputs.len()) {
-            if let Some((column, is_taken_away)) = column_of(counted[place], self.bits) {
+            if let Some((column, is_less)) = column_of(counted[place], self.bits) {
                 // In the last column nothing tells what is taken away from what isn't.
                 let is_last = (column as usize).saturating_add(1) == self.bits;
-                if is_taken_away || is_last && is_some_taken_away {
+                if is_less || is_last && is_some_taken_away {
                     others.put_single(0, column as usize, inputs[place])?;
                     counted[place] = 0;
                 }
@@ -505,7 +404,7 @@ impl Partial {
                 ..row.copied()?
             })?;
         }
-        self.put_singles(inputs, &counted)
+        self.put_counted_singles(inputs, &counted)
     }
 
     /// Counts a number in.
@@ -537,21 +436,5 @@ impl Partial {
             }
         }
         Ok(literals)
-    }
-
-    /// The rows that are added up whole: first that of the number, if it isn't 0.
-    pub(crate) fn summands(&self) -> Result<Vec<Row>, AllocError> {
-        let mut rows = Vec::with_capacity(self.alloc, self.rows.len())?;
-        if self.number & modulus_of(self.bits) != 0 {
-            let mut row = self.row()?;
-            for column in 0..self.bits {
-                row.put(column, self.digit(column));
-            }
-            rows.push(row)?;
-        }
-        for row in &self.rows {
-            rows.push(row.copied()?)?;
-        }
-        Ok(rows)
     }
 }

@@ -2,19 +2,23 @@
 
 use crate::adding::{Tree, added_up};
 use crate::ends::{End, PREFIXES};
-use crate::factors::{Summands, summands_of};
+use crate::factors::{Summands, is_taken_away, summands_of};
 use crate::netlist::Netlist;
-use crate::partial::{Digits, Order, Partial};
+use crate::partial::{Digits, Partial};
 use crate::quadratic::Quadratic;
-use crate::simulation::{Values, random_patterns};
+use crate::rows::Order;
+use crate::simulation::{ASSIGNMENTS, Values, random_patterns};
 use eqc_graph::{Graph, negated_if};
 use eqc_sweep::{Random, below};
 use std::alloc::{AllocError, Global};
 
 /// So many of a thousand spans of a tree of prefixes are among what a word is made of at least, if
-/// it is taken to end with it: of a tree with which it doesn't end about so many are, since trees
+/// it is taken to end with it: of a tree with which it doesn't end up to so many are, since trees
 /// share spans.
-const ENDS_SO: u32 = 300;
+const ENDS_SO: u32 = 400;
+
+/// A value that has so few ones, or zeros, tells nothing: others have it by chance.
+const FEW: u32 = 4;
 
 /// An architecture of a product: which digits of which factor make rows, and how these are added
 /// up.
@@ -157,6 +161,23 @@ impl Seen {
         (found.saturating_mul(1_000) / all.max(1)).min(1_000) as u32
     }
 
+    /// The literals whose values tell something.
+    fn telling(
+        &self,
+        alloc: Global,
+        values: &Values,
+        literals: &[u32],
+    ) -> Result<Vec<u32>, AllocError> {
+        let mut telling = Vec::new(alloc);
+        for literal in literals {
+            let ones = values.at(*literal).count_ones();
+            if ones >= FEW && ones <= ASSIGNMENTS as u32 - FEW {
+                telling.push(*literal)?;
+            }
+        }
+        Ok(telling)
+    }
+
     /// How many values there are beyond others, and how many of these are among them.
     fn beyond(&self, values: &[u128], others: &[u128]) -> (u64, u64) {
         let mut found = 0u64;
@@ -228,20 +249,6 @@ impl<'a> Task<'a> {
         )
     }
 
-    /// Puts the inputs that count by themselves.
-    fn put_singles(
-        &self,
-        partial: &mut Partial,
-        inputs: &[u32],
-        digits: Digits,
-    ) -> Result<(), AllocError> {
-        if digits == Digits::Whole {
-            partial.put_whole_singles(inputs, &self.summands.singles)
-        } else {
-            partial.put_singles(inputs, &self.summands.singles)
-        }
-    }
-
     /// The netlist of an architecture, with its word.
     fn made(&self, architecture: Architecture) -> Result<(Netlist, Vec<u32>), AllocError> {
         let mut netlist = Netlist::new(self.alloc)?;
@@ -257,8 +264,9 @@ impl<'a> Task<'a> {
             inputs.push(negated_if(input, is_negated))?;
         }
         let mut partial = Partial::new(self.alloc, self.quadratic.bits);
+        let singles = &self.summands.singles;
         if architecture.are_singles_first {
-            self.put_singles(&mut partial, &inputs, architecture.digits)?;
+            partial.put_singles(&inputs, singles, architecture.digits)?;
         }
         for product in &self.summands.products {
             partial.put_product(
@@ -270,7 +278,7 @@ impl<'a> Task<'a> {
             )?;
         }
         if !architecture.are_singles_first {
-            self.put_singles(&mut partial, &inputs, architecture.digits)?;
+            partial.put_singles(&inputs, singles, architecture.digits)?;
         }
         partial.order(architecture.order)?;
         partial.put_number(self.quadratic.constant);
@@ -284,20 +292,44 @@ impl<'a> Task<'a> {
         Ok((netlist, word))
     }
 
+    /// Whether something counts as less than nothing.
+    fn takes_away(&self) -> bool {
+        let Summands { products, singles } = self.summands;
+        products.iter().any(|it| it.takes_away())
+            || singles
+                .iter()
+                .any(|times| is_taken_away(*times, self.quadratic.bits))
+    }
+
+    /// Whether there are inputs that count by themselves.
+    fn has_singles(&self) -> bool {
+        self.summands.singles.iter().any(|times| *times != 0)
+    }
+
+    /// Whether rows of such digits come out otherwise in an order than in others. Single rows of
+    /// which none is taken away do as other digits' rows.
+    fn tells_apart(&self, digits: Digits, order: Order) -> bool {
+        match order {
+            Order::Ascending => true,
+            Order::Merged => {
+                let has_parts = self.summands.products.len() > 1 || self.has_singles();
+                digits == Digits::Whole && has_parts
+            }
+            Order::Single => digits == Digits::Whole && self.takes_away(),
+        }
+    }
+
     /// All architectures that there may be, with chains at their ends: in another order, or with
     /// single inputs first, only where that makes a difference.
     fn architectures(&self) -> Result<Vec<Architecture>, AllocError> {
-        let has_singles = self.summands.singles.iter().any(|times| *times != 0);
-        let products = &self.summands.products;
-        let has_parts = products.len() > 1 || has_singles;
+        let has_singles = self.has_singles();
         let mut all = Vec::new(self.alloc);
         for (digits, tree) in TREES {
             for is_swapped in [false, true] {
                 for are_singles_first in [false, true] {
                     for order in [Order::Ascending, Order::Merged, Order::Single] {
-                        let is_usual = order == Order::Ascending || *digits == Digits::Whole;
-                        let is_other = order != Order::Merged || has_parts;
-                        if is_usual && is_other && (has_singles || !are_singles_first) {
+                        let is_other = has_singles || !are_singles_first;
+                        if is_other && self.tells_apart(*digits, order) {
                             all.push(Architecture {
                                 digits: *digits,
                                 is_swapped,
@@ -340,8 +372,9 @@ impl<'a> Task<'a> {
                 ..architecture
             };
             let (netlist, _) = self.made(other)?;
-            let spans = netlist.spans();
-            let share = seen.share(&self.values(&netlist, &seen.patterns)?, spans);
+            let values = self.values(&netlist, &seen.patterns)?;
+            let spans = seen.telling(self.alloc, &values, netlist.spans())?;
+            let share = seen.share(&values, &spans);
             let more = u64::from(share.saturating_sub(ENDS_SO));
             let beyond = more.saturating_mul(spans.len() as u64);
             if beyond > most {
