@@ -166,14 +166,23 @@ impl Adders {
     }
 
     /// Whether a sum may be taken for its adder: what comes of that is below it, but for a carry
-    /// that isn't a sum.
+    /// that isn't a sum, or is one of literals that are never both true.
     pub(crate) fn is_useful(&self, node: u32, block: &Block) -> bool {
         let level = self.level(node);
         let carry = node_of(block.carry);
         let is_below = [block.x, block.y, block.z]
             .iter()
             .all(|literal| self.level(node_of(*literal)) < level);
-        is_below && (!self.is_sum(carry) || self.is_small(carry) || self.level(carry) < level)
+        let goes_down = self.is_small(carry) || self.level(carry) < level;
+        is_below && (!self.is_sum(carry) || goes_down || self.is_split(carry))
+    }
+
+    /// Whether a node is the sum of literals that are never both true.
+    fn is_split(&self, node: u32) -> bool {
+        match self.nodes.get(node as usize) {
+            None => false,
+            Some(known) => known.sums.iter().any(|block| node_of(block.carry) == 0),
+        }
     }
 
     pub(crate) fn is_sum(&self, node: u32) -> bool {

@@ -256,7 +256,8 @@ impl Choice {
         if rule == PRODUCT {
             self.count_product(place.node)?;
         }
-        if rule != ALIKE {
+        // A question that shows nothing leaves the coefficient too, and other steps are there still.
+        if !matches!(step, Move::Unify(_, _, _)) {
             self.last = (place.node, place.factor);
         }
         Some(step)
@@ -269,7 +270,7 @@ impl Choice {
             SUM => self.sum(place),
             PRODUCT => self.product(place),
             3 => place.complement(),
-            4 => self.carry(place),
+            4 => self.carry(sweep, place),
             5 => place.small(false),
             6 => place.small_product(),
             ALIKE => self.alike(sweep, place),
@@ -341,10 +342,18 @@ impl Choice {
         None
     }
 
-    /// A carry whose coefficient is a multiple of a column's.
-    fn carry(&mut self, place: &Place<'_>) -> Option<Move> {
+    /// A carry whose coefficient is a multiple of a column's. About one that looks as if it were
+    /// never true, or always, it is asked first: nothing may take it away else.
+    fn carry(&mut self, sweep: &Sweep, place: &Place<'_>) -> Option<Move> {
         if self.has(place.node, NO_CARRY) {
             return None;
+        }
+        if place.half().is_some() && place.adders.is_carry(place.node) {
+            if let Some(other) = self.like(sweep, place.node) {
+                if node_of(other) == 0 {
+                    return self.alike(sweep, place);
+                }
+            }
         }
         self.any_carry(place)
     }

@@ -27,6 +27,8 @@ pub struct Limits {
     /// The work of all questions about nodes that are made, as for an `Effort`, and of the looks at
     /// nodes when steps are chosen.
     pub work: u64,
+    /// Whether attempts are left out that take longest, and mostly fail where the others did.
+    pub is_brief: bool,
 }
 
 /// What there may be for each hundred thousand conflicts.
@@ -36,6 +38,7 @@ const USUAL: Limits = Limits {
     question: 3_000,
     conflicts: 100_000,
     work: 200_000_000,
+    is_brief: false,
 };
 
 impl Limits {
@@ -43,11 +46,10 @@ impl Limits {
     pub fn of(conflicts: u64) -> Limits {
         let part = conflicts.min(USUAL.conflicts);
         Limits {
-            steps: USUAL.steps,
-            terms: USUAL.terms,
             question: USUAL.question.min(conflicts),
             conflicts,
             work: (USUAL.work / USUAL.conflicts).saturating_mul(part),
+            ..USUAL
         }
     }
 
@@ -86,6 +88,10 @@ const LARGE: u32 = 16_000;
 
 /// An attempt that may well be in vain has this part of the looks.
 const BRIEF: u64 = 4;
+
+/// And the first one has this part of a pair's conflicts: what it shows it mostly shows without a
+/// question.
+const FIRST: u64 = 16;
 
 /// The work of a look at whether a sum or a carry is among the nodes.
 const LOOK: u64 = 10;
@@ -280,7 +286,16 @@ impl Sums {
         ensures equal { IfOk result (λ is. IsTrue is → AreEqualWords self.new.reduction.sweep ps.now qs.now) }
     {
         self.looks = limits.work.saturating_mul(LOOKS);
-        if self.attempt(ps, qs, (FEW, false), limits)? {
+        let conflicts = limits.conflicts / FIRST;
+        if self.attempt(
+            ps,
+            qs,
+            (FEW, false),
+            Limits {
+                conflicts,
+                ..limits
+            },
+        )? {
             return Ok(true);
         }
         if self.is_of_several(ps) && self.attempt_briefly(ps, qs, limits)? {
@@ -289,6 +304,9 @@ impl Sums {
         self.take_kind((LEAST, true), limits)?;
         if self.shown(ps, qs, Way::AsSecond, limits)? || self.shown(ps, qs, Way::AsFirst, limits)? {
             return Ok(true);
+        }
+        if limits.is_brief {
+            return Ok(false);
         }
         if self.attempt(ps, qs, (FEW, true), limits)? {
             return Ok(true);

@@ -10,9 +10,9 @@ ghost use Rattle.eqc_sums.specs.Adding.{AreEqualWords};
 use crate::chains::{Shape, copy_shaped};
 use crate::compared::{Found, Search, TURNS};
 use crate::cuts::are_equal_over_cuts;
-use crate::shown::{Words, are_shown_equal, are_shown_in, copies, copy_both};
+use crate::shown::{Look, Words, are_shown_equal, are_shown_in, copies, copy_both};
 use eqc_graph::Graph;
-use eqc_products::{Made, Reference, References, make_array, make_references};
+use eqc_products::{Made, Reference, References, is_sum_of_products, make_array, make_references};
 use eqc_sweep::{Effort, Sweep};
 use std::alloc::{AllocError, Global};
 
@@ -23,11 +23,9 @@ const ALIKE: u32 = 350;
 /// Where so many literals of its adders are, the word is as it was made: it can be added up itself.
 const AS_MADE: u32 = 980;
 
-/// Words are first added up with this part of the work, and then with this one each as an array:
-/// what succeeds mostly takes less.
-const BRIEFLY: u64 = 8;
-
-const AS_ARRAY: u64 = 2;
+/// Where a netlist made anew has such a part of its gates that aren't there, they are others: a flow
+/// rewrote the word.
+const REWRITTEN: u32 = 4;
 
 /// Makes a word of a netlist that is made anew in a graph. Fails where memory is refused.
 fn enter(alloc: Global, sweep: &mut Sweep, made: &Made) -> Result<Vec<u32>, AllocError>
@@ -71,16 +69,18 @@ fn are_added_up_by(words: &Words<'_>, graph: &Graph, third: &[u32]) -> Result<bo
         firsts: third,
         ..*words
     };
-    Ok(are_shown_in(&first, graph, 0, AS_ARRAY)? && are_shown_in(&second, graph, 0, AS_ARRAY)?)
+    Ok(
+        are_shown_in(&first, graph, 0, Look::Array)?
+            && are_shown_in(&second, graph, 0, Look::Array)?,
+    )
 }
 
 #[tactic(auto, using(crate::proofs::ShownLaws::words_back))]
 /// Whether two words of a graph that are the same sum of products are shown equal by what they add
 /// up to: by a brief look, or since both add up to what an array does that is made anew. Words that
 /// share parts, but are otherwise of different architectures, are shown so where they aren't by
-/// themselves: adders of one may have been found equal to parts of the other. Fails where memory is
-/// refused.
-pub fn are_equal_by_arrays(words: &Words<'_>, graph: &Graph) -> Result<bool, AllocError>
+/// themselves: adders of one may have been found equal to parts of the other.
+fn are_added_up_briefly(words: &Words<'_>, graph: &Graph) -> Result<bool, AllocError>
     ensures { IfOk result (λ is. IsTrue is → AreEqualWords graph.now words.now.firsts.now words.now.seconds.now) }
 {
     let Words {
@@ -92,7 +92,7 @@ pub fn are_equal_by_arrays(words: &Words<'_>, graph: &Graph) -> Result<bool, All
     let Some(array) = make_array(alloc, graph, firsts, seconds)? else {
         return Ok(false);
     };
-    if are_shown_in(words, graph, 0, BRIEFLY)? {
+    if are_shown_in(words, graph, 0, Look::Brief)? {
         return Ok(true);
     }
     let mut sweep = Sweep::new(alloc, Effort::none())?;
@@ -111,12 +111,23 @@ pub fn are_equal_by_arrays(words: &Words<'_>, graph: &Graph) -> Result<bool, All
     are_added_up_by(&copied, sweep.graph(), &third)
 }
 
-/// Whether two words are shown equal by what they add up to, briefly or both as an array does at
-/// first.
+/// Whether two words are shown equal so, or by a brief look with the second one first: mostly that
+/// shows squares, of which no array is made.
+fn are_added_up_soon(words: &Words<'_>, graph: &Graph) -> Result<bool, AllocError>
+    ensures { IfOk result (λ is. IsTrue is → AreEqualWords graph.now words.now.firsts.now words.now.seconds.now) }
+{
+    Ok(
+        are_added_up_briefly(words, graph)?
+            || is_sum_of_products(words.alloc, graph, words.firsts)?
+                && are_shown_in(words, graph, 1, Look::Brief)?,
+    )
+}
+
+/// Whether two words are shown equal by what they add up to, soon or in more turns.
 fn are_added_up(words: &Words<'_>, graph: &Graph) -> Result<bool, AllocError>
     ensures { IfOk result (λ is. IsTrue is → AreEqualWords graph.now words.now.firsts.now words.now.seconds.now) }
 {
-    Ok(are_equal_by_arrays(words, graph)? || are_shown_equal(words, graph, TURNS)?)
+    Ok(are_added_up_soon(words, graph)? || are_shown_equal(words, graph, TURNS)?)
 }
 
 #[tactic(auto, using(crate::proofs::ShownLaws::equal_along))]
@@ -197,11 +208,32 @@ fn are_equal_in(
     are_equal_by_way(words, graph, one, other)
 }
 
+/// For which words netlists are made anew.
+#[derive(Clone, Copy, PartialEq, Eq)]
+pub(crate) enum Aim {
+    /// Of one of which a mapping took adders apart.
+    TakenApart,
+    /// Of one that has its adders, but of other gates.
+    Rewritten,
+}
+
+/// Makes a word of a netlist that is made anew in a graph, and answers whether such a part of its
+/// gates wasn't there that they are others. Fails where memory is refused.
+fn enter_new(alloc: Global, sweep: &mut Sweep, made: &Made) -> Result<(Vec<u32>, bool), AllocError>
+    ensures { Extends sweep.old sweep.new }
+{
+    let before = sweep.graph().len();
+    let word = enter(alloc, sweep, made)?;
+    let new = sweep.graph().len().saturating_sub(before);
+    Ok((word, new >= made.graph.len() / REWRITTEN))
+}
+
 #[tactic(auto, using(crate::proofs::ShownLaws::words_back))]
 /// The same as `are_equal_anew` where the words are sums of products of inputs.
 pub(crate) fn are_equal_by_way_of_references(
     words: &Words<'_>,
     graph: &Graph,
+    aim: Aim,
 ) -> Result<bool, AllocError>
     ensures { IfOk result (λ is. IsTrue is → AreEqualWords graph.now words.now.firsts.now words.now.seconds.now) }
 {
@@ -214,7 +246,8 @@ pub(crate) fn are_equal_by_way_of_references(
     let Some(anew) = make_references(alloc, graph, firsts, seconds)? else {
         return Ok(false);
     };
-    if !is_taken_apart(&anew.first) && !is_taken_apart(&anew.second) {
+    let are_apart = is_taken_apart(&anew.first) || is_taken_apart(&anew.second);
+    if are_apart != (aim == Aim::TakenApart) {
         return Ok(false);
     }
     let mut sweep = Sweep::new(alloc, Effort::none())?;
@@ -224,8 +257,11 @@ pub(crate) fn are_equal_by_way_of_references(
     if ps.len() != firsts.len() || qs.len() != seconds.len() {
         return Ok(false);
     }
-    let first = enter(alloc, &mut sweep, &anew.first.made)?;
-    let second = enter(alloc, &mut sweep, &anew.second.made)?;
+    let (first, is_first_new) = enter_new(alloc, &mut sweep, &anew.first.made)?;
+    let (second, is_second_new) = enter_new(alloc, &mut sweep, &anew.second.made)?;
+    if aim == Aim::Rewritten && !is_first_new && !is_second_new {
+        return Ok(false);
+    }
     let copied = Words {
         firsts: &ps,
         seconds: &qs,
@@ -242,5 +278,21 @@ pub(crate) fn are_equal_by_way_of_references(
 pub fn are_equal_anew(words: &Words<'_>, graph: &Graph) -> Result<bool, AllocError>
     ensures { IfOk result (λ is. IsTrue is → AreEqualWords graph.now words.now.firsts.now words.now.seconds.now) }
 {
-    Ok(are_equal_by_way_of_references(words, graph)? || are_equal_over_cuts(words, graph)?)
+    Ok(
+        are_equal_by_way_of_references(words, graph, Aim::TakenApart)?
+            || are_equal_over_cuts(words, graph)?,
+    )
+}
+
+/// Whether two words of a graph that are the same sum of products are shown equal by what they add
+/// up to: by way of netlists that are made anew in the architectures that they have, where a flow
+/// rewrote their gates, by a brief look, or as an array does that is made anew. Fails where memory is
+/// refused.
+pub fn are_equal_by_arrays(words: &Words<'_>, graph: &Graph) -> Result<bool, AllocError>
+    ensures { IfOk result (λ is. IsTrue is → AreEqualWords graph.now words.now.firsts.now words.now.seconds.now) }
+{
+    Ok(
+        are_equal_by_way_of_references(words, graph, Aim::Rewritten)?
+            || are_added_up_soon(words, graph)?,
+    )
 }

@@ -1,5 +1,5 @@
 //! Words of a graph that are shown equal in a copy of what they are made of.
-ghost use Rattle.std.specs.Prelude.{◌≡◌, ℕ, List, length, IfOk, IsTrue};
+ghost use Rattle.std.specs.Prelude.{◌≡◌, ℕ, ◌<◌, List, length, IfOk, IsTrue};
 ghost use Rattle.eqc_graph.specs.declared.node.Node.{Node};
 ghost use Rattle.eqc_sweep.specs.Copying.{AreCopies};
 ghost use Rattle.eqc_sums.specs.Adding.{AreEqualWords};
@@ -24,6 +24,40 @@ pub struct Words<'a> {
 
 /// The most conflicts of a question about a node that enters a copy.
 pub(crate) const CHEAP: u64 = 30;
+
+/// How far it is gone to show words equal in a turn.
+#[derive(Clone, Copy, PartialEq, Eq)]
+pub(crate) enum Look {
+    /// What succeeds mostly takes no more.
+    Brief,
+    /// By way of an array.
+    Array,
+    Long,
+}
+
+impl Look {
+    /// It has this part of the work for the steps.
+    fn part(self) -> u64
+        ensures { 0 < result }
+    {
+        match self {
+            Look::Brief => 8,
+            Look::Array => 2,
+            Look::Long => 1,
+        }
+    }
+
+    /// And this part of the steps, of which there are as many as nodes.
+    fn part_of_steps(self) -> u32
+        ensures { 0 < result }
+    {
+        match self {
+            Look::Brief => 3,
+            Look::Array => 2,
+            Look::Long => 1,
+        }
+    }
+}
 
 /// Enters so many inputs that nothing depends on: those behind them have other patterns then. Fails
 /// where memory is refused.
@@ -90,14 +124,14 @@ fn copy_words(
     copy_both(words, graph, sweep, Shape::ShortChains)
 }
 
-/// Whether two words are shown equal in a graph that has copies of nodes, with this part of the work
-/// for the steps. It stands apart for its
-/// proof's sake: where a graph is let go in each exit that takes many times longer.
+/// Whether two words are shown equal in a graph that has copies of nodes, with a look's part of the
+/// work for the steps. It stands apart for its proof's sake: where a graph is let go in each exit
+/// that takes many times longer.
 fn show_copies(
     words: &Words<'_>,
     table: &[Option<u32>],
     sums: &mut Sums,
-    part: u64,
+    look: Look,
 ) -> Result<bool, AllocError>
     ensures { (old : List Node) → AreCopies old sums.old.reduction.sweep table.now → IfOk result (λ is. IsTrue is → AreEqualWords old words.now.firsts.now words.now.seconds.now) }
 {
@@ -112,28 +146,37 @@ fn show_copies(
     if ps.len() != firsts.len() || qs.len() != seconds.len() {
         return Ok(false);
     }
-    let steps = limits.steps.min(sums.sweep().graph().len());
+    let steps = limits.steps.min(sums.sweep().graph().len()) / look.part_of_steps();
     let limits = Limits { steps, ..limits };
     sums.find_adders(limits)?;
     sums.find_carries()?;
-    let work = limits.work / part.max(1);
-    sums.show(&ps, &qs, Limits { work, ..limits })
+    let work = limits.work / look.part();
+    let is_brief = look != Look::Long;
+    sums.show(
+        &ps,
+        &qs,
+        Limits {
+            work,
+            is_brief,
+            ..limits
+        },
+    )
 }
 
-/// Whether two words are shown equal in one of the turns, which are counted from 0, with this part
-/// of the work for the steps. Fails where memory is refused.
+/// Whether two words are shown equal by a look in one of the turns, which are counted from 0. Fails
+/// where memory is refused.
 pub(crate) fn are_shown_in(
     words: &Words<'_>,
     graph: &Graph,
     turn: u32,
-    part: u64,
+    look: Look,
 ) -> Result<bool, AllocError>
     ensures { IfOk result (λ is. IsTrue is → AreEqualWords graph.now words.now.firsts.now words.now.seconds.now) }
 {
     let mut sweep = Sweep::new(words.alloc, Effort::of(CHEAP, words.limits.work))?;
     let table = copy_words(words, graph, &mut sweep, turn)?;
     let mut sums = Sums::new(words.alloc, sweep);
-    show_copies(words, &table, &mut sums, part)
+    show_copies(words, &table, &mut sums, look)
 }
 
 /// Whether two words of a graph are shown equal within their limits by what they add up to, in a
@@ -144,7 +187,7 @@ pub fn are_shown_equal(words: &Words<'_>, graph: &Graph, turns: u32) -> Result<b
     ensures { IfOk result (λ is. IsTrue is → AreEqualWords graph.now words.now.firsts.now words.now.seconds.now) }
 {
     'turns: for turn in 0..turns {
-        if are_shown_in(words, graph, turn, 1)? {
+        if are_shown_in(words, graph, turn, Look::Long)? {
             return Ok(true);
         }
     }

@@ -5,15 +5,17 @@ use crate::ends::same;
 use crate::factors::Factors;
 use crate::multipliers::{Architecture, product};
 use eqc_adders::Limits;
-use eqc_numbers::{Words, are_equal_anew, are_equal_by_arrays};
+use eqc_numbers::{Words, are_equal_anew, are_equal_by_arrays, are_shown_equal};
 use eqc_sweep::{Effort, Sweep};
 use std::alloc::{AllocError, Global};
 
-/// What is made anew: products in the architectures that two are most like, or an array for both.
+/// What is made anew: products in the architectures that two are most like, an array for both, or
+/// nothing, where what both add up to is looked at once.
 #[derive(Clone, Copy)]
 enum Way {
     Anew,
     Arrays,
+    Once,
 }
 
 /// Whether two products of factors are shown equal, the second one of which may have an adder with
@@ -38,6 +40,7 @@ fn shown(
     match way {
         Way::Anew => are_equal_anew(&words, sweep.graph()),
         Way::Arrays => are_equal_by_arrays(&words, sweep.graph()),
+        Way::Once => are_shown_equal(&words, sweep.graph(), 1),
     }
 }
 
@@ -75,6 +78,23 @@ static ARRAYS: &[(&str, Factors, Architecture, Architecture, usize, bool)] = &[
 fn products_are_compared_with_arrays(rt: HostRuntime) -> Result<(), AllocError> {
     for (case, factors, first, second, fault, is_shown) in ARRAYS {
         let found = shown(rt.alloc(), *factors, *first, *second, *fault, Way::Arrays)?;
+        same(&rt, found, *is_shown, *case);
+    }
+    Ok(())
+}
+
+/// The same of words times a number, where it is looked once at what they add up to.
+#[rattlefmt::skip]
+static TIMES: &[(&str, Factors, Architecture, Architecture, usize, bool)] = &[
+    ("24 bits, times a number", Factors::Times(24, 0b101_0101_0101_0101), Architecture::Array, Architecture::Columns, 0, true),
+    ("20 bits, times a number, by columns", Factors::Times(20, 0b1011_0111_0110_1101), Architecture::Columns, Architecture::Array, 0, true),
+    ("24 bits, times a number, a wrong carry", Factors::Times(24, 0b1_0000_1000_0001), Architecture::Columns, Architecture::Array, 60, false),
+];
+
+#[test]
+fn words_times_a_number_are_shown_equal(rt: HostRuntime) -> Result<(), AllocError> {
+    for (case, factors, first, second, fault, is_shown) in TIMES {
+        let found = shown(rt.alloc(), *factors, *first, *second, *fault, Way::Once)?;
         same(&rt, found, *is_shown, *case);
     }
     Ok(())

@@ -6,8 +6,8 @@ use eqc_sweep::Sweep;
 use std::alloc::{AllocError, Global};
 
 /// What is multiplied: two words of so many bits, each of inputs or of two words of these by another
-/// input, or one by itself; two words whose last bits are signs; or two whose product is taken away
-/// from a word of twice as many bits.
+/// input, or one by itself; two words whose last bits are signs; two whose product is taken away from
+/// a word of twice as many bits; or one that is multiplied by a number of as many bits.
 #[derive(Clone, Copy)]
 pub(crate) enum Factors {
     Two(u32),
@@ -15,6 +15,7 @@ pub(crate) enum Factors {
     Same(u32),
     Signed(u32),
     TakenAway(u32),
+    Times(u32, u32),
 }
 
 /// The literals of the words that are multiplied, and of the one that the product is taken away
@@ -74,6 +75,15 @@ fn inputs(
     Ok(word)
 }
 
+/// The word of so many bits that a number has.
+fn number_word(alloc: Global, width: u32, number: u32) -> Result<Vec<u32>, AllocError> {
+    let mut word = Vec::new(alloc);
+    for k in 0..width {
+        word.push(number >> (k % 32) & 1)?;
+    }
+    Ok(word)
+}
+
 /// The input that chooses words.
 const CHOICE: u32 = 900;
 
@@ -111,6 +121,10 @@ fn words(
         Factors::Same(width) => {
             let a = inputs(alloc, sweep, width, 0)?;
             (a, inputs(alloc, sweep, width, 0)?)
+        }
+        Factors::Times(width, number) => {
+            let a = inputs(alloc, sweep, width, 0)?;
+            (a, number_word(alloc, width, number)?)
         }
     })
 }

@@ -37,6 +37,19 @@ fn plain(x: u32, y: u32, z: u32) -> (u32, u32, u32) {
     (x - x % 2, y - y % 2, z - z % 2)
 }
 
+/// Three literals, or their complements, where the carry of these alone is there by its gates, as
+/// that of two complements is, and no older node looks like it: else that one is better asked about.
+fn there(sweep: &Sweep, x: u32, y: u32, z: u32) -> (u32, u32, u32) {
+    let (p, q, r) = (x ^ 1, y ^ 1, z ^ 1);
+    if z == 0 || sweep.carry_there(x, y, z).is_some() {
+        return (x, y, z);
+    }
+    match (sweep.carry_there(p, q, r), sweep.like_carry(p, q, r)) {
+        (Some(there), Some(alike)) if node_of(there) == node_of(alike) => (p, q, r),
+        _ => (x, y, z),
+    }
+}
+
 /// Whether two triples have the same nodes.
 fn has_nodes(block: &Block, x: u32, y: u32, z: u32) -> bool {
     let mut one = [block.x / 2, block.y / 2, block.z / 2];
@@ -273,6 +286,11 @@ impl Adders {
         let mut found = Vec::new(self.alloc);
         'polarities: for polarity in 0..4 {
             let (p, q, r) = polarized(three.0, three.1, three.2, polarity);
+            let (p, q, r) = if asks {
+                (p, q, r)
+            } else {
+                there(reduction.sweep(), p, q, r)
+            };
             if let Some(block) = self.tried(reduction, p, q, r, asks)? {
                 found.push((polarity, block))?;
             }

@@ -11,12 +11,12 @@ pub returns : goal.returns
 returns c =
     let old = c.args.graph.now in
     let now = c.copy_both.new.sweep in
-    let new = c.enter-2.new.sweep in
+    let new = c.enter_new-2.new.sweep in
     let ps = c.in_ok-ps.ps.items in
     let qs = c.in_ok-qs.qs.items in
     let are = c.in_ok-table.ensures in
-    let grown : Extends now new = extends_both now c.enter.new.sweep new c.enter.ensures
-    c.enter-2.ensures in
+    let grown : Extends now new = extends_both now c.enter_new.new.sweep new c.enter_new.ensures
+    c.enter_new-2.ensures in
     let first = c.in_ok-ps.ensures old now (subst (λ t. AreCopies old now t)
     (sym c.deref.ensures.value) are) in
     let second = c.in_ok-qs.ensures old now (subst (λ t. AreCopies old now t)
