@@ -3,18 +3,18 @@
 mod finding;
 
 use crate::support::{ROOM, Support, differing, joined, of_one};
-use eqc_graph::{Graph, Node, node_of};
+use eqc_graph::{Graph, Literal, Node, node_of};
 use eqc_sweep::Sweep;
 use std::alloc::{AllocError, Global};
 
 /// Three literals, their sum and their carry.
 #[derive(Clone, Copy)]
 pub(crate) struct Block {
-    pub(crate) x: u32,
-    pub(crate) y: u32,
-    pub(crate) z: u32,
-    pub(crate) sum: u32,
-    pub(crate) carry: u32,
+    pub(crate) x: Literal,
+    pub(crate) y: Literal,
+    pub(crate) z: Literal,
+    pub(crate) sum: Literal,
+    pub(crate) carry: Literal,
 }
 
 /// What is known of a node.
@@ -38,9 +38,9 @@ pub(crate) struct Known {
     /// Whether it was made to see whether it is there.
     is_tried: bool,
     /// Literals of which it is the difference.
-    pub(crate) pairs: Vec<(u32, u32)>,
+    pub(crate) pairs: Vec<(Literal, Literal)>,
     /// Literals above it, or beside it, of which it was found to be the difference.
-    merged: Vec<(u32, u32)>,
+    merged: Vec<(Literal, Literal)>,
     pub(crate) sums: Vec<Block>,
     pub(crate) carries: Vec<Block>,
     /// Three literals whose carry it is, the first of which has the other polarity in a carry that
@@ -48,7 +48,7 @@ pub(crate) struct Known {
     pub(crate) relations: Vec<Block>,
     /// Complements of which it is the conjunction, though it isn't made of them, and its literal
     /// that is.
-    pub(crate) others: Vec<(u32, u32, u32)>,
+    pub(crate) others: Vec<(Literal, Literal, Literal)>,
 }
 
 /// What is known of the nodes.
@@ -229,7 +229,7 @@ impl Adders {
     }
 
     /// The literals of a conjunction.
-    pub(crate) fn literals(&self, node: u32) -> Option<(u32, u32)> {
+    pub(crate) fn literals(&self, node: u32) -> Option<(Literal, Literal)> {
         match self.nodes.get(node as usize) {
             None => None,
             Some(known) => match known.gate {
@@ -239,7 +239,7 @@ impl Adders {
         }
     }
 
-    fn support(&self, literal: u32) -> Support {
+    fn support(&self, literal: Literal) -> Support {
         match self.nodes.get(node_of(literal) as usize) {
             None => Support::many(),
             Some(known) => known.support,
@@ -247,7 +247,7 @@ impl Adders {
     }
 
     /// The nodes of which a literal is the exclusive or.
-    fn leaves(&self, literal: u32) -> Support {
+    fn leaves(&self, literal: Literal) -> Support {
         match self.nodes.get(node_of(literal) as usize) {
             None => Support::many(),
             Some(known) => known.leaves,
@@ -256,7 +256,7 @@ impl Adders {
 
     /// The nodes of which two literals' exclusive or is one, itself where these are many. Nothing
     /// where no node is of both.
-    fn cancelled(&self, x: u32, y: u32) -> Option<Support> {
+    fn cancelled(&self, x: Literal, y: Literal) -> Option<Support> {
         let leaves = differing(self.leaves(x), self.leaves(y));
         let both = self
             .leaves(x)
@@ -283,7 +283,7 @@ impl Adders {
     }
 
     /// What is known of a new node of two literals.
-    fn of_gate(&self, k: u32, node: Node, x: u32, y: u32) -> Result<Known, AllocError> {
+    fn of_gate(&self, k: u32, node: Node, x: Literal, y: Literal) -> Result<Known, AllocError> {
         let mut known = self.of_nothing(node)?;
         known.support = joined(self.support(x), self.support(y));
         known.level = self.above(x, y);
@@ -293,7 +293,7 @@ impl Adders {
     }
 
     /// What is known of a new exclusive or.
-    fn of_xor(&self, k: u32, node: Node, x: u32, y: u32) -> Result<Known, AllocError> {
+    fn of_xor(&self, k: u32, node: Node, x: Literal, y: Literal) -> Result<Known, AllocError> {
         let mut known = self.of_gate(k, node, x, y)?;
         known.pairs.push((x, y))?;
         let leaves = differing(self.leaves(x), self.leaves(y));
@@ -355,7 +355,7 @@ impl Adders {
     }
 
     /// How many ways lead from a literal down to inputs.
-    fn ways_from(&self, literal: u32) -> u32 {
+    fn ways_from(&self, literal: Literal) -> u32 {
         match self.nodes.get(node_of(literal) as usize) {
             None => WAYS,
             Some(known) => known.ways,
@@ -385,7 +385,7 @@ impl Adders {
     }
 
     /// The level above two literals.
-    fn above(&self, x: u32, y: u32) -> u32 {
+    fn above(&self, x: Literal, y: Literal) -> u32 {
         let most = self.level(node_of(x)).max(self.level(node_of(y)));
         most.saturating_add(1)
     }
@@ -400,7 +400,7 @@ impl Adders {
     }
 
     /// Takes in that a node is the difference of two literals, which are below it or not.
-    fn add_pair(&mut self, literal: u32, x: u32, y: u32) -> Result<(), AllocError> {
+    fn add_pair(&mut self, literal: Literal, x: Literal, y: Literal) -> Result<(), AllocError> {
         let level = self.level(node_of(literal));
         let is_below = self.level(node_of(x)) < level && self.level(node_of(y)) < level;
         let other = if literal % 2 == 1 { y ^ 1 } else { y };
@@ -418,7 +418,13 @@ impl Adders {
     }
 
     /// Takes in that a node is the conjunction of two complements, though it isn't made of them.
-    fn add_other(&mut self, graph: &Graph, literal: u32, x: u32, y: u32) -> Result<(), AllocError> {
+    fn add_other(
+        &mut self,
+        graph: &Graph,
+        literal: Literal,
+        x: Literal,
+        y: Literal,
+    ) -> Result<(), AllocError> {
         let node = node_of(literal);
         if x % 2 == 0 || y % 2 == 0 || node >= graph.len() || graph.node(node) == Node::And(x, y) {
             return Ok(());
@@ -444,7 +450,7 @@ impl Adders {
     }
 
     /// The pair of a node at a place of its list.
-    pub(crate) fn pair(&self, node: u32, at: usize) -> Option<(u32, u32)> {
+    pub(crate) fn pair(&self, node: u32, at: usize) -> Option<(Literal, Literal)> {
         let known = self.nodes.get(node as usize)?;
         let pair = *known.pairs.get(at)?;
         Some(pair)
@@ -460,7 +466,7 @@ impl Adders {
 
     /// The pair of a node at a place of its list, behind which those come that it was found to be
     /// the difference of.
-    fn pair_or_merged(&self, node: u32, at: usize) -> Option<(u32, u32)> {
+    fn pair_or_merged(&self, node: u32, at: usize) -> Option<(Literal, Literal)> {
         let known = self.nodes.get(node as usize)?;
         match known.pairs.get(at) {
             Some(pair) => Some(*pair),

@@ -6,7 +6,7 @@ ghost use Rattle.std.specs.Prelude.{◌≡◌};
 use crate::adders::Adders;
 use crate::moves::Move;
 use crate::place::{Place, minus, towards};
-use eqc_graph::node_of;
+use eqc_graph::{Literal, node_of};
 use eqc_sums::Reduction;
 use eqc_sweep::Sweep;
 use std::alloc::{AllocError, Global};
@@ -104,7 +104,7 @@ impl Choice {
     }
 
     /// Leaves a word of a graph of so many nodes as it is.
-    pub(crate) fn keep(&mut self, word: &[u32], nodes: u32) -> Result<(), AllocError> {
+    pub(crate) fn keep(&mut self, word: &[Literal], nodes: u32) -> Result<(), AllocError> {
         self.marks.resize(nodes as usize, 0)?;
         for literal in word {
             self.mark(node_of(*literal), KEPT);

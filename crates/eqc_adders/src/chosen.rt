@@ -1,6 +1,7 @@
 //! Choices of some of a column's literals, one after the other. Nothing is believed of it.
 
 use crate::column::{Item, Likely};
+use eqc_graph::Literal;
 
 /// So many literals are chosen at most.
 pub(crate) const MOST_CHOSEN: usize = 5;
@@ -30,7 +31,7 @@ impl Chosen {
     }
 
     /// The literal at one of its places, or the one that is false where there are fewer.
-    pub(crate) fn literal(&self, settled: &[Item], k: usize) -> u32 {
+    pub(crate) fn literal(&self, settled: &[Item], k: usize) -> Literal {
         match self.item(settled, k) {
             None => 0,
             Some(item) => item.literal,
@@ -38,7 +39,7 @@ impl Chosen {
     }
 
     /// Its literals, and behind them the one that is false.
-    pub(crate) fn literals(&self, settled: &[Item]) -> [u32; 5] {
+    pub(crate) fn literals(&self, settled: &[Item]) -> [Literal; 5] {
         let mut literals = [0; 5];
         for k in 0..MOST_CHOSEN {
             literals[k] = self.literal(settled, k);

@@ -1,22 +1,23 @@
 //! The literals of a column, and which of them are likely to be added up. Nothing is believed of
 //! it.
 
+use eqc_graph::Literal;
 use std::alloc::{AllocError, Global};
 
 /// A literal that a column has, by a number of its own: one that comes later has a larger one.
 #[derive(Clone, Copy)]
 pub(crate) struct Item {
     pub(crate) number: u32,
-    pub(crate) literal: u32,
+    pub(crate) literal: Literal,
 }
 
 /// Two or three literals of a column, by their numbers in ascending order, and how much speaks for
 /// adding them up.
 #[derive(Clone, Copy)]
 pub(crate) struct Likely {
-    pub(crate) x: u32,
-    pub(crate) y: u32,
-    pub(crate) z: Option<u32>,
+    pub(crate) x: Literal,
+    pub(crate) y: Literal,
+    pub(crate) z: Option<Literal>,
     pub(crate) score: u32,
 }
 
@@ -78,18 +79,18 @@ impl Column {
     }
 
     /// Takes in a literal.
-    pub(crate) fn put(&mut self, literal: u32) -> Result<(), AllocError> {
+    pub(crate) fn put(&mut self, literal: Literal) -> Result<(), AllocError> {
         self.waiting.push(literal)?;
         Ok(())
     }
 
     /// The next literal that waits.
-    pub(crate) fn draw(&mut self) -> Option<u32> {
+    pub(crate) fn draw(&mut self) -> Option<Literal> {
         self.waiting.pop()
     }
 
     /// Settles a literal, with what is likely of it and others.
-    pub(crate) fn settle(&mut self, literal: u32, likely: &[Likely]) -> Result<(), AllocError> {
+    pub(crate) fn settle(&mut self, literal: Literal, likely: &[Likely]) -> Result<(), AllocError> {
         self.settled.push(Item {
             number: self.next,
             literal,
@@ -115,7 +116,7 @@ impl Column {
 
     /// Takes a settled literal out, and all that was likely of it. Answers the false one where
     /// there is none of this number.
-    pub(crate) fn take(&mut self, number: u32) -> u32 {
+    pub(crate) fn take(&mut self, number: u32) -> Literal {
         let Some(place) = self.place(number) else {
             return 0;
         };

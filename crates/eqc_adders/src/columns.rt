@@ -11,7 +11,7 @@ use crate::adders::Adders;
 use crate::chosen::{Chosen, MOST_CHOSEN};
 use crate::column::{Column, Item, Likely};
 use crate::place::minus;
-use eqc_graph::{Graph, Node, node_of};
+use eqc_graph::{Graph, Literal, Node, node_of};
 use eqc_sums::{Form, Reduction};
 use eqc_sweep::{Sweep, below};
 use std::alloc::{AllocError, Global};
@@ -47,7 +47,7 @@ struct Rest {
 
 impl Rest {
     /// Adds a literal so many times.
-    fn add(&mut self, literal: u32, times: u128) {
+    fn add(&mut self, literal: Literal, times: u128) {
         let node = node_of(literal) as usize;
         if node >= self.coefficients.len() {
             return;
@@ -87,7 +87,7 @@ fn count_of(coefficients: &[u128]) -> u32 {
 }
 
 /// Whether a literal of a word is of this node.
-fn has_node(word: &[u32], node: u32) -> bool {
+fn has_node(word: &[Literal], node: u32) -> bool {
     for literal in word {
         if node_of(*literal) == node {
             return true;
@@ -99,9 +99,9 @@ fn has_node(word: &[u32], node: u32) -> bool {
 /// Notes two or three literals where something speaks for adding them up.
 fn note(
     likely: &mut Vec<Likely>,
-    x: u32,
-    y: u32,
-    z: Option<u32>,
+    x: Literal,
+    y: Literal,
+    z: Option<Literal>,
     score: u32,
 ) -> Result<(), AllocError> {
     if score > 0 {
@@ -112,7 +112,7 @@ fn note(
 
 impl Below {
     /// Whether a literal is of one of them.
-    fn has(&self, literal: Option<u32>) -> bool {
+    fn has(&self, literal: Option<Literal>) -> bool {
         match literal {
             None => false,
             Some(literal) => self
@@ -123,16 +123,16 @@ impl Below {
         }
     }
 
-    fn has_carry(&self, sweep: &Sweep, x: u32, y: u32, z: u32) -> bool {
+    fn has_carry(&self, sweep: &Sweep, x: Literal, y: Literal, z: Literal) -> bool {
         self.has(sweep.like_carry(x, y, z))
     }
 
-    fn has_sum(&self, sweep: &Sweep, x: u32, y: u32, z: u32) -> bool {
+    fn has_sum(&self, sweep: &Sweep, x: Literal, y: Literal, z: Literal) -> bool {
         self.has(sweep.like_sum(&[x, y, z]))
     }
 
     /// How much speaks for adding up three.
-    fn score_of_three(&self, sweep: &Sweep, x: u32, y: u32, z: u32) -> u32 {
+    fn score_of_three(&self, sweep: &Sweep, x: Literal, y: Literal, z: Literal) -> u32 {
         let carry = if self.has_carry(sweep, x, y, z) {
             CARRY
         } else {
@@ -143,7 +143,7 @@ impl Below {
     }
 
     /// How much speaks for adding up two.
-    fn score_of_two(&self, sweep: &Sweep, x: u32, y: u32) -> u32 {
+    fn score_of_two(&self, sweep: &Sweep, x: Literal, y: Literal) -> u32 {
         let has_carry = self.has_carry(sweep, x, y, 0);
         let has_sum = self.has_sum(sweep, x, y, 0);
         if has_carry && has_sum {
@@ -274,7 +274,7 @@ impl Columns {
     }
 
     /// Puts a literal in a column.
-    fn put(&mut self, at: usize, literal: u32) -> Result<(), AllocError> {
+    fn put(&mut self, at: usize, literal: Literal) -> Result<(), AllocError> {
         if literal != 0 && at < self.columns.len() {
             self.columns[at].put(literal)?;
         }
@@ -283,7 +283,7 @@ impl Columns {
 
     /// Puts a literal in the columns in which so many times it has a digit. Answers whether there
     /// is one in no lower column.
-    fn spread(&mut self, literal: u32, times: u128) -> Result<bool, AllocError> {
+    fn spread(&mut self, literal: Literal, times: u128) -> Result<bool, AllocError> {
         for place in 0..128 {
             if times >> place & 1 == 0 {
                 continue;
@@ -297,7 +297,7 @@ impl Columns {
     }
 
     /// What a form comes to with the word that stays added to it. Fails where memory is refused.
-    fn rest(&self, form: &Form, word: &[u32]) -> Result<Rest, AllocError> {
+    fn rest(&self, form: &Form, word: &[Literal]) -> Result<Rest, AllocError> {
         let mut coefficients = Vec::with_capacity(self.alloc, form.coefficients.len())?;
         for coefficient in form.coefficients.iter() {
             coefficients.push(self.turned(*coefficient))?;
@@ -328,7 +328,7 @@ impl Columns {
         &mut self,
         form: &Form,
         adders: &Adders,
-        word: &[u32],
+        word: &[Literal],
     ) -> Result<bool, AllocError> {
         let Rest {
             mut constant,
@@ -376,9 +376,9 @@ impl Columns {
         &self,
         sweep: &Sweep,
         at: usize,
-        literal: u32,
+        literal: Literal,
         likely: &mut Vec<Likely>,
-    ) -> Result<Option<(u32, u32)>, AllocError> {
+    ) -> Result<Option<(Literal, Literal)>, AllocError> {
         let settled = self.settled(at);
         let number = self.number(at);
         for (later, y) in settled.iter().enumerate() {
@@ -430,8 +430,8 @@ impl Columns {
         &mut self,
         sweep: &Sweep,
         at: usize,
-        literal: u32,
-    ) -> Result<Option<(u32, u32)>, AllocError> {
+        literal: Literal,
+    ) -> Result<Option<(Literal, Literal)>, AllocError> {
         let mut likely = Vec::new(self.alloc);
         let count = self.settled(at).len();
         if self.spend(count.saturating_mul(count)) {
@@ -451,7 +451,7 @@ impl Columns {
         &mut self,
         reduction: &mut Reduction,
         at: usize,
-        three: (u32, u32, u32),
+        three: (Literal, Literal, Literal),
     ) -> Result<(), AllocError>
         ensures { Keeps reduction.old.sweep reduction.new.sweep reduction.old.form reduction.new.form }
     {
@@ -562,7 +562,7 @@ impl Columns {
         &self,
         reduction: &mut Reduction,
         at: usize,
-        literal: u32,
+        literal: Literal,
         conflicts: &mut u64,
     ) -> Result<bool, AllocError>
         ensures { Keeps reduction.old.sweep reduction.new.sweep reduction.old.form reduction.new.form }
@@ -584,7 +584,7 @@ impl Columns {
     pub(crate) fn add_up(
         &mut self,
         reduction: &mut Reduction,
-        word: &[u32],
+        word: &[Literal],
         conflicts: u64,
     ) -> Result<(), AllocError>
         ensures { Keeps reduction.old.sweep reduction.new.sweep reduction.old.form reduction.new.form }

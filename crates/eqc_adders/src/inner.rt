@@ -7,7 +7,7 @@
 
 use crate::adders::{Adders, Block, is_degenerate};
 use crate::frames::{Frame, Frames};
-use eqc_graph::{Graph, Node, is_negated, negated_if, node_of};
+use eqc_graph::{Graph, Literal, Node, is_negated, negated_if, node_of};
 use eqc_sums::MOST_LITERALS;
 use eqc_sweep::{Sweep, below};
 use std::alloc::{AllocError, Global};
@@ -16,8 +16,8 @@ use std::alloc::{AllocError, Global};
 /// which nothing is to be shown.
 #[derive(Drop)]
 pub struct Lookalikes {
-    pub firsts: Vec<u32>,
-    pub seconds: Vec<u32>,
+    pub firsts: Vec<Literal>,
+    pub seconds: Vec<Literal>,
 }
 
 /// A node of the first netlist and one of the second that look alike, where one of them is the sum
@@ -201,8 +201,8 @@ fn bits_of(
     sweep: &Sweep,
     adders: &Adders,
     frames: &Frames,
-    firsts: &[u32],
-    seconds: &[u32],
+    firsts: &[Literal],
+    seconds: &[Literal],
 ) -> Result<Vec<Bit>, AllocError> {
     let of_first = below(alloc, sweep.graph(), firsts)?;
     let of_second = below(alloc, sweep.graph(), seconds)?;
@@ -289,8 +289,8 @@ pub(crate) fn inner_words(
     alloc: Global,
     sweep: &Sweep,
     adders: &Adders,
-    firsts: &[u32],
-    seconds: &[u32],
+    firsts: &[Literal],
+    seconds: &[Literal],
 ) -> Result<Vec<Lookalikes>, AllocError> {
     let frames = frames_of(alloc, adders)?;
     let lowest = lowest_columns(alloc, adders, &frames)?;

@@ -1,6 +1,7 @@
 //! Steps as values: what is chosen by one that is believed in nothing, and done.
 ghost use Rattle.eqc_sums.specs.Forms.{Keeps};
 
+use eqc_graph::Literal;
 use eqc_sums::Reduction;
 use std::alloc::AllocError;
 
@@ -8,23 +9,23 @@ use std::alloc::AllocError;
 #[derive(Clone, Copy)]
 pub(crate) enum Move {
     /// An adder of three literals, so many times.
-    Adder(u32, u32, u32, u128),
+    Adder(Literal, Literal, Literal, u128),
     /// A parity of two.
-    Parity(u32, u32),
+    Parity(Literal, Literal),
     /// A literal that is split by another one, so many times.
-    Split(u32, u32, u128),
+    Split(Literal, Literal, u128),
     /// The carry of a complement of the first literal, so many times.
-    Polarity(u32, u32, u32, u128),
+    Polarity(Literal, Literal, Literal, u128),
     /// An adder times the first literal, so many times.
-    Product(u32, u32, u32, u32, u128),
+    Product(Literal, Literal, Literal, Literal, u128),
     /// A literal that is split by another one, times the first one.
-    SplitProduct(u32, u32, u32, u128),
+    SplitProduct(Literal, Literal, Literal, u128),
     /// A literal's polynomial, down to so many gates below it, so many times.
-    Expand(u32, u32, u128),
+    Expand(Literal, u32, u128),
     /// A literal times the polynomial of another one, in place of their conjunction, so many times.
-    ExpandProduct(u32, u32, u32, u128),
+    ExpandProduct(Literal, Literal, u32, u128),
     /// The second literal in place of the first, so many times.
-    Unify(u32, u32, u128),
+    Unify(Literal, Literal, u128),
 }
 
 #[tactic(auto, using(eqc_sums::proofs::KeepLemmas::keeps_itself))]

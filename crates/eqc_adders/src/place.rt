@@ -3,7 +3,7 @@
 
 use crate::adders::{Adders, Block};
 use crate::moves::Move;
-use eqc_graph::node_of;
+use eqc_graph::{Literal, node_of};
 use eqc_sums::Form;
 use eqc_sweep::Sweep;
 
@@ -27,7 +27,7 @@ pub(crate) fn minus(factor: u128) -> u128 {
 }
 
 /// The factor of a step that takes a literal away, where its node has this coefficient.
-pub(crate) fn towards(literal: u32, factor: u128) -> u128 {
+pub(crate) fn towards(literal: Literal, factor: u128) -> u128 {
     if literal % 2 == 1 {
         minus(factor)
     } else {
@@ -50,7 +50,7 @@ impl<'a> Place<'a> {
     }
 
     /// The literal of the node.
-    fn literal(&self) -> u32 {
+    fn literal(&self) -> Literal {
         self.node.wrapping_mul(2)
     }
 
@@ -89,7 +89,7 @@ impl<'a> Place<'a> {
     }
 
     /// How well a change of a literal fits the form.
-    fn fitting_of(&self, literal: u32, change: u128) -> u32 {
+    fn fitting_of(&self, literal: Literal, change: u128) -> u32 {
         let there = self.form.coefficient(node_of(literal));
         if literal == 0 || there == 0 {
             0
@@ -167,7 +167,7 @@ impl<'a> Place<'a> {
 
     /// The literals of a node that is a conjunction and neither a sum nor a carry nor small, and
     /// doesn't stand for one of inputs that stays.
-    fn conjunction_at(&self, node: u32) -> Option<(u32, u32)> {
+    fn conjunction_at(&self, node: u32) -> Option<(Literal, Literal)> {
         let adders = self.adders;
         if adders.is_small(node) || adders.is_left(node) {
             return None;
@@ -179,7 +179,7 @@ impl<'a> Place<'a> {
     }
 
     /// The literals of the node, where it is such a conjunction.
-    pub(crate) fn conjunction(&self) -> Option<(u32, u32)> {
+    pub(crate) fn conjunction(&self) -> Option<(Literal, Literal)> {
         self.conjunction_at(self.node)
     }
 
@@ -281,7 +281,7 @@ impl<'a> Place<'a> {
 }
 
 /// Whether two literals are complements of two that look as if they were never both true.
-fn is_split(sweep: &Sweep, p: u32, q: u32) -> bool {
+fn is_split(sweep: &Sweep, p: Literal, q: Literal) -> bool {
     let are_both = p % 2 == 1 && q % 2 == 1;
     are_both && sweep.like_carry(p ^ 1, q ^ 1, 0) == Some(0)
 }

@@ -9,6 +9,7 @@ use crate::choice::Choice;
 use crate::columns::Columns;
 use crate::inner::{Lookalikes, inner_words};
 use crate::moves::{Move, apply};
+use eqc_graph::Literal;
 use eqc_sums::Reduction;
 use eqc_sweep::{Effort, Sweep};
 use std::alloc::{AllocError, Global};
@@ -166,7 +167,7 @@ fn reduce_by(
 }
 
 /// The place of a word's lowest literal in a form.
-fn lowest_of(word: &[u32]) -> u32 {
+fn lowest_of(word: &[Literal]) -> u32 {
     128u32.saturating_sub(word.len().min(128) as u32)
 }
 
@@ -265,8 +266,8 @@ impl Sums {
     /// the adders that were found. Nothing is promised of them. Fails where memory is refused.
     pub fn inner_words(
         &self,
-        firsts: &[u32],
-        seconds: &[u32],
+        firsts: &[Literal],
+        seconds: &[Literal],
     ) -> Result<Vec<Lookalikes>, AllocError> {
         inner_words(
             self.alloc,
@@ -281,7 +282,12 @@ impl Sums {
     /// Whether two words of literals, the lowest first, are shown equal, within these limits. Words
     /// of unequal length, of none or of more than 128 literals aren't. Fails where memory is
     /// refused.
-    pub fn show(&mut self, ps: &[u32], qs: &[u32], limits: Limits) -> Result<bool, AllocError>
+    pub fn show(
+        &mut self,
+        ps: &[Literal],
+        qs: &[Literal],
+        limits: Limits,
+    ) -> Result<bool, AllocError>
         ensures extends { Extends self.old.reduction.sweep self.new.reduction.sweep }
         ensures equal { IfOk result (λ is. IsTrue is → AreEqualWords self.new.reduction.sweep ps.now qs.now) }
     {
@@ -320,7 +326,7 @@ impl Sums {
     /// Whether a word looks like a sum of several products, in a graph so large that attempts in
     /// vain take long: one product has as many literals as its factors have together, of which some
     /// may be known to be equal.
-    fn is_of_several(&self, word: &[u32]) -> bool {
+    fn is_of_several(&self, word: &[Literal]) -> bool {
         let inputs = self.adders.inputs();
         self.reduction.sweep().graph().len() >= LARGE
             && inputs > word.len().saturating_add(word.len() / 4)
@@ -331,8 +337,8 @@ impl Sums {
     /// looks that are left, which are left behind it too.
     fn attempt_briefly(
         &mut self,
-        ps: &[u32],
-        qs: &[u32],
+        ps: &[Literal],
+        qs: &[Literal],
         limits: Limits,
     ) -> Result<bool, AllocError>
         ensures extends { Extends self.old.reduction.sweep self.new.reduction.sweep }
@@ -364,8 +370,8 @@ impl Sums {
     /// carries or not.
     fn attempt(
         &mut self,
-        ps: &[u32],
-        qs: &[u32],
+        ps: &[Literal],
+        qs: &[Literal],
         kind: (usize, bool),
         limits: Limits,
     ) -> Result<bool, AllocError>
@@ -379,8 +385,8 @@ impl Sums {
     /// Whether two words are shown equal by the adders that are known.
     fn shown(
         &mut self,
-        ps: &[u32],
-        qs: &[u32],
+        ps: &[Literal],
+        qs: &[Literal],
         way: Way,
         limits: Limits,
     ) -> Result<bool, AllocError>

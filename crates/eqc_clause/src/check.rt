@@ -6,7 +6,7 @@ use crate::falsified::Falsified;
 use crate::left::Left;
 use crate::reading::left_by;
 use crate::{Clauses, Hint, Marks};
-use eqc_graph::{Graph, negated, node_of};
+use eqc_graph::{Graph, Literal, negated, node_of};
 use std::alloc::AllocError;
 
 /// Whether the hints, each unit or false in its turn, show that one of the literals is true that
@@ -34,7 +34,7 @@ fn ends_in_conflict(
 fn clause_follows(
     graph: &Graph,
     clauses: &Clauses,
-    clause: &[u32],
+    clause: &[Literal],
     hints: &[Hint],
     falsified: &mut Falsified,
 ) -> Result<bool, AllocError>
@@ -51,7 +51,7 @@ fn clause_follows(
 fn refutation_follows(
     graph: &Graph,
     clauses: &Clauses,
-    assumptions: &[u32],
+    assumptions: &[Literal],
     hints: &[Hint],
     falsified: &mut Falsified,
 ) -> Result<bool, AllocError>
@@ -65,7 +65,7 @@ fn refutation_follows(
 }
 
 /// Whether the graph has each of the literals.
-fn are_within(graph: &Graph, clause: &[u32]) -> bool
+fn are_within(graph: &Graph, clause: &[Literal]) -> bool
     ensures { IsTrue result → AreWithin graph.now clause.now }
 {
     let count = graph.len();
@@ -81,7 +81,7 @@ fn are_within(graph: &Graph, clause: &[u32]) -> bool
 fn shows(
     graph: &Graph,
     clauses: &Clauses,
-    clause: &[u32],
+    clause: &[Literal],
     hints: &[Hint],
     marks: &mut Marks,
 ) -> Result<bool, AllocError>
@@ -102,7 +102,7 @@ impl Clauses {
     pub fn learn(
         &mut self,
         graph: &Graph,
-        clause: &[u32],
+        clause: &[Literal],
         hints: &[Hint],
         marks: &mut Marks,
     ) -> Result<Option<u32>, AllocError>
@@ -129,7 +129,7 @@ impl Clauses {
     pub fn refutes(
         &self,
         graph: &Graph,
-        assumptions: &[u32],
+        assumptions: &[Literal],
         hints: &[Hint],
         marks: &mut Marks,
     ) -> Result<bool, AllocError>

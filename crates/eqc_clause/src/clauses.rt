@@ -2,7 +2,7 @@
 ghost use Rattle.std.specs.Prelude.{◌≡◌, ℕ, ◌<◌, List, [], length, map, IfOk, OnErr, IfSome};
 ghost use Rattle.eqc_clause.specs.Clauses.{clause_of, IsSound, Puts, GivesUp};
 
-use eqc_graph::Node;
+use eqc_graph::{Literal, Node};
 use std::alloc::{AllocError, Global};
 use std::marker::Model;
 
@@ -10,7 +10,7 @@ use std::marker::Model;
 #[derive(Drop)]
 pub struct Clauses {
     alloc: Global,
-    clauses: Vec<Vec<u32>>,
+    clauses: Vec<Vec<Literal>>,
     /// Numbers of clauses that were given up.
     free: Vec<u32>,
 }
@@ -79,7 +79,7 @@ impl Clauses {
 
     /// Puts a clause under a free number, which it gives. Where memory is refused the store stays
     /// as it is.
-    pub(crate) fn put(&mut self, clause: &[u32]) -> Result<u32, AllocError>
+    pub(crate) fn put(&mut self, clause: &[Literal]) -> Result<u32, AllocError>
         ensures ok { IfOk result (λ number. Puts self.old self.new number clause.now) }
         ensures err { OnErr result (self.new ≡ self.old) }
     {
@@ -100,7 +100,7 @@ impl Clauses {
 }
 
 /// Takes a number from the list whose clause is empty.
-fn take_free(free: &mut Vec<u32>, clauses: &[Vec<u32>]) -> Option<u32>
+fn take_free(free: &mut Vec<u32>, clauses: &[Vec<Literal>]) -> Option<u32>
     ensures { IfSome result (λ number. (number < length clauses.now) × (clause_of (map (λ c. c.items) clauses.now) number ≡ [])) }
 {
     while let Some(number) = free.pop() {

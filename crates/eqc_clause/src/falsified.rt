@@ -2,7 +2,7 @@
 ghost use Rattle.std.specs.Prelude.{◌≡◌, ℕ, [], ◌∷◌, ◌++◌, true, IsTrue, OnOk};
 ghost use Rattle.eqc_clause.specs.Checking.{has, AreComplements};
 
-use eqc_graph::negated;
+use eqc_graph::{Literal, negated};
 use std::alloc::{AllocError, Global};
 use std::marker::Model;
 
@@ -11,7 +11,7 @@ use std::marker::Model;
 #[derive(Drop)]
 pub(crate) struct Falsified {
     marks: Vec<bool>,
-    trail: Vec<u32>,
+    trail: Vec<Literal>,
 }
 
 impl Model for Falsified {
@@ -47,7 +47,7 @@ impl Falsified {
     }
 
     /// Whether the literal is found among those that are false.
-    pub(crate) fn is_false(&self, l: u32) -> bool
+    pub(crate) fn is_false(&self, l: Literal) -> bool
         ensures { IsTrue result → has self.now l ≡ true }
     {
         match self.marks.get(l as usize) {
@@ -57,7 +57,7 @@ impl Falsified {
     }
 
     /// Takes the literal to be false.
-    pub(crate) fn set_false(&mut self, l: u32) -> Result<(), AllocError>
+    pub(crate) fn set_false(&mut self, l: Literal) -> Result<(), AllocError>
         ensures { OnOk result (self.new ≡ self.old ++ l ∷ []) }
     {
         self.trail.push(l)?;
@@ -69,7 +69,7 @@ impl Falsified {
     }
 
     /// Takes each of the literals to be false.
-    pub(crate) fn set_all_false(&mut self, literals: &[u32]) -> Result<(), AllocError>
+    pub(crate) fn set_all_false(&mut self, literals: &[Literal]) -> Result<(), AllocError>
         requires { self.old ≡ [] }
         ensures { OnOk result (self.new ≡ literals.now) }
     {
@@ -80,7 +80,7 @@ impl Falsified {
     }
 
     /// Takes each of the literals to be true.
-    pub(crate) fn set_all_true(&mut self, literals: &[u32]) -> Result<(), AllocError>
+    pub(crate) fn set_all_true(&mut self, literals: &[Literal]) -> Result<(), AllocError>
         requires { self.old ≡ [] }
         ensures { OnOk result (AreComplements self.new literals.now) }
     {

@@ -3,19 +3,20 @@ ghost use Rattle.std.specs.Prelude.{◌≡◌};
 ghost use Rattle.eqc_clause.specs.Checking.{IsLeft};
 
 use crate::falsified::Falsified;
+use eqc_graph::Literal;
 
 /// What is left of a clause without the literals that are taken to be false.
 pub(crate) enum Left {
     Nothing,
-    One(u32),
+    One(Literal),
     More,
 }
 
 /// What is left of a clause.
-pub(crate) fn left_of(clause: &[u32], falsified: &Falsified) -> Left
+pub(crate) fn left_of(clause: &[Literal], falsified: &Falsified) -> Left
     ensures { IsLeft clause.now falsified.now result }
 {
-    let mut left: Option<u32> = None;
+    let mut left: Option<Literal> = None;
     for l in clause {
         if !falsified.is_false(*l) {
             if left.is_some() {

@@ -6,7 +6,7 @@ ghost use Rattle.eqc_clause.specs.Checking.{IsLeftOf, IsLeftOfGate};
 use crate::falsified::Falsified;
 use crate::left::{Left, left_of};
 use crate::{Clauses, Hint};
-use eqc_graph::{Graph, Node, negated, negated_if};
+use eqc_graph::{Graph, Literal, Node, negated, negated_if};
 
 /// What is left of the clause of a hint. More than one literal where there is no such clause.
 pub(crate) fn left_by(graph: &Graph, clauses: &Clauses, hint: Hint, falsified: &Falsified) -> Left
@@ -50,7 +50,7 @@ fn left_of_gate(n: u32, node: Node, side: u32, falsified: &Falsified) -> Left
 }
 
 /// The same of an and.
-fn left_of_and(n: u32, a: u32, b: u32, side: u32, falsified: &Falsified) -> Left
+fn left_of_and(n: u32, a: Literal, b: Literal, side: u32, falsified: &Falsified) -> Left
     ensures { IsLeftOfGate n (Node.And a b) falsified.now result }
 {
     match side {
@@ -62,7 +62,7 @@ fn left_of_and(n: u32, a: u32, b: u32, side: u32, falsified: &Falsified) -> Left
 }
 
 /// The same of an xor.
-fn left_of_xor(n: u32, a: u32, b: u32, side: u32, falsified: &Falsified) -> Left
+fn left_of_xor(n: u32, a: Literal, b: Literal, side: u32, falsified: &Falsified) -> Left
     ensures { IsLeftOfGate n (Node.Xor a b) falsified.now result }
 {
     if side >= 4 {

@@ -18,6 +18,7 @@ use eqc_adders::{Limits, Sums};
 use eqc_build::Steps;
 use eqc_compare::{Alike, Progress, Stage};
 use eqc_gates::needed_within;
+use eqc_graph::Literal;
 use eqc_literals::{CHARACTERS, NONE, Owned, entered, literal_of, mark, moved};
 use eqc_numbers::{Shape, copy_shaped};
 use eqc_sweep::{Effort, Sweep};
@@ -111,8 +112,8 @@ pub(crate) fn of_words(
 /// The literals of the two signals of a word's outputs, in turn.
 #[derive(Drop)]
 pub(crate) struct Literals {
-    pub(crate) firsts: Vec<u32>,
-    pub(crate) seconds: Vec<u32>,
+    pub(crate) firsts: Vec<Literal>,
+    pub(crate) seconds: Vec<Literal>,
 }
 
 /// The literals of a word's outputs, up to the first one that has none. Fails where memory is
@@ -120,7 +121,7 @@ pub(crate) struct Literals {
 pub(crate) fn literals_of(
     alloc: Global,
     steps: &Steps<'_>,
-    literals: &[Option<u32>],
+    literals: &[Option<Literal>],
     word: &[usize],
 ) -> Result<Literals, AllocError>
     requires lawful { AreSteps steps.now }
@@ -168,7 +169,7 @@ pub struct Task<'a> {
 /// marked. Fails where memory is refused.
 fn show_word(
     task: &Task<'_>,
-    literals: &[Option<u32>],
+    literals: &[Option<Literal>],
     word: &[usize],
     sums: &mut Sums,
     limits: Limits,
@@ -195,7 +196,7 @@ fn show_word(
 fn show_words<R, P: Progress<R>>(
     rt: &R,
     task: &Task<'_>,
-    literals: &[Option<u32>],
+    literals: &[Option<Literal>],
     sums: &mut Sums,
     alike: &mut Alike,
     watch: &P,
@@ -233,7 +234,7 @@ enum Side {
 fn literals_of_all(
     alloc: Global,
     steps: &Steps<'_>,
-    literals: &[Option<u32>],
+    literals: &[Option<Literal>],
     words: &[Vec<usize>],
     side: Side,
 ) -> Result<Vec<u32>, AllocError>
@@ -257,7 +258,7 @@ fn literals_of_all(
 fn copy_second_first(
     task: &Task<'_>,
     plain: &Sweep,
-    literals: &[Option<u32>],
+    literals: &[Option<Literal>],
     sweep: &mut Sweep,
 ) -> Result<(), AllocError>
     requires inside { IsInside task.now.steps.now plain.now literals.now }
@@ -276,9 +277,9 @@ fn copy_second_first(
 fn chained(
     task: &Task<'_>,
     plain: &Sweep,
-    literals: &[Option<u32>],
+    literals: &[Option<Literal>],
     sweep: &mut Sweep,
-) -> Result<Vec<Option<u32>>, AllocError>
+) -> Result<Vec<Option<Literal>>, AllocError>
     requires inside { IsInside task.now.steps.now plain.now literals.now }
     requires outputs { All (λ w. All (λ o. o < length task.now.steps.now.pair.first.outputs) w.items) task.now.words.now }
     ensures { IfOk result (λ all. IsInside task.now.steps.now sweep.new all.items) }
@@ -297,7 +298,7 @@ fn enter_by<R, P: Progress<R>>(
     plain: &mut Sweep,
     sweep: &mut Sweep,
     watch: &P,
-) -> Result<Vec<Option<u32>>, AllocError>
+) -> Result<Vec<Option<Literal>>, AllocError>
     requires closed { AreClosed task.now.steps.now marks.now }
     requires outputs { All (λ w. All (λ o. o < length task.now.steps.now.pair.first.outputs) w.items) task.now.words.now }
     ensures { IfOk result (λ all. IsInside task.now.steps.now sweep.new all.items) }
@@ -314,7 +315,7 @@ fn enter_words<R, P: Progress<R>>(
     marks: &[bool],
     sweep: &mut Sweep,
     watch: &P,
-) -> Result<Vec<Option<u32>>, AllocError>
+) -> Result<Vec<Option<Literal>>, AllocError>
     requires closed { AreClosed task.now.steps.now marks.now }
     requires outputs { All (λ w. All (λ o. o < length task.now.steps.now.pair.first.outputs) w.items) task.now.words.now }
     ensures { IfOk result (λ all. IsInside task.now.steps.now sweep.new all.items) }
@@ -342,7 +343,7 @@ fn sweep_words<R, P: Progress<R>>(
     marks: &[bool],
     sweep: &mut Sweep,
     watch: &P,
-) -> Result<Vec<Option<u32>>, AllocError>
+) -> Result<Vec<Option<Literal>>, AllocError>
     requires closed { AreClosed task.now.steps.now marks.now }
     requires outputs { All (λ w. All (λ o. o < length task.now.steps.now.pair.first.outputs) w.items) task.now.words.now }
     ensures { IfOk result (λ all. IsInside task.now.steps.now sweep.new all.items) }
@@ -360,7 +361,7 @@ fn sweep_words<R, P: Progress<R>>(
 fn show_swept<R, P: Progress<R>>(
     rt: &R,
     task: &Task<'_>,
-    swept: Result<Vec<Option<u32>>, AllocError>,
+    swept: Result<Vec<Option<Literal>>, AllocError>,
     sums: &mut Sums,
     alike: &mut Alike,
     watch: &P,

@@ -24,7 +24,7 @@ use eqc_adders::Lookalikes;
 use eqc_build::Steps;
 use eqc_compare::{Progress, Stage};
 use eqc_gates::needed_within;
-use eqc_graph::{Graph, negated, node_of};
+use eqc_graph::{Graph, Literal, negated, node_of};
 use eqc_literals::{CHARACTERS, Owned, entered, entry};
 use eqc_numbers::{
     Words, are_equal_anew, are_equal_by_arrays, are_equal_in_cases, are_shown_equal,
@@ -36,7 +36,7 @@ use std::alloc::{AllocError, Global};
 #[tactic(auto, using(crate::proofs::InnerLaws::stands, crate::proofs::InnerLaws::stands_turned))]
 /// What stands for a literal where two are equal, of which the first one stands for the second one:
 /// nothing for other literals.
-fn standing_for(literal: Option<u32>, first: u32, second: u32) -> Option<u32>
+fn standing_for(literal: Option<Literal>, first: Literal, second: Literal) -> Option<Literal>
     ensures { (nodes : List Node) (f : (ℕ → Bool) → Bool) → IsWithin nodes first → AreEqual nodes first second → IfSome literal (λ l. HasValue nodes l f) → IfSome result (λ l. HasValue nodes l f) }
 {
     let literal = literal?;
@@ -53,7 +53,12 @@ fn standing_for(literal: Option<u32>, first: u32, second: u32) -> Option<u32>
 }
 
 /// Notes what stands for the literals of steps, where these are of two that are equal.
-fn note(literals: &[Option<u32>], shown: &mut Vec<Option<u32>>, first: u32, second: u32)
+fn note(
+    literals: &[Option<Literal>],
+    shown: &mut Vec<Option<Literal>>,
+    first: Literal,
+    second: Literal,
+)
     ensures { (p : PairOf) (nodes : List Node) → IsWithin nodes first → AreEqual nodes first second → AreLiterals p nodes literals.now → AreLiterals p nodes shown.old.items → AreLiterals p nodes shown.new.items }
 {
     'steps: for step in 0..shown.len() {
@@ -67,8 +72,8 @@ fn note(literals: &[Option<u32>], shown: &mut Vec<Option<u32>>, first: u32, seco
 /// in a graph.
 fn note_word(
     graph: &Graph,
-    literals: &[Option<u32>],
-    shown: &mut Vec<Option<u32>>,
+    literals: &[Option<Literal>],
+    shown: &mut Vec<Option<Literal>>,
     word: &Lookalikes,
 )
     ensures { (p : PairOf) → AreEqualWords graph.now word.now.firsts.items word.now.seconds.items → AreLiterals p graph.now literals.now → AreLiterals p graph.now shown.old.items → AreLiterals p graph.now shown.new.items }
@@ -124,10 +129,10 @@ fn shown_of<R, P: Progress<R>>(
     rt: &R,
     scope: &Scope<'_>,
     graph: &Graph,
-    literals: &[Option<u32>],
+    literals: &[Option<Literal>],
     words: &[Lookalikes],
     watch: &P,
-) -> Result<Option<Vec<Option<u32>>>, AllocError>
+) -> Result<Option<Vec<Option<Literal>>>, AllocError>
     ensures { (p : PairOf) → AreLiterals p graph.now literals.now → IfOk result (λ found. IfSome found (λ shown. TellEqual p shown.items)) }
 {
     let mut shown = vec![in scope.alloc; None; literals.len()]?;
@@ -151,7 +156,7 @@ fn shown_of<R, P: Progress<R>>(
 /// The literals of the words of outputs. Fails where memory is refused.
 fn words_of_outputs(
     scope: &Scope<'_>,
-    literals: &[Option<u32>],
+    literals: &[Option<Literal>],
 ) -> Result<Vec<Lookalikes>, AllocError>
     requires lawful { AreSteps scope.now.steps.now }
     requires words { All (λ w. All (λ o. o < length scope.now.steps.now.pair.first.outputs) w.items) scope.now.words.now }
@@ -173,7 +178,7 @@ fn words_of_outputs(
 fn tried(
     scope: &Scope<'_>,
     graph: &Graph,
-    literals: &[Option<u32>],
+    literals: &[Option<Literal>],
 ) -> Result<Vec<Lookalikes>, AllocError>
     requires lawful { AreSteps scope.now.steps.now }
     requires outputs { All (λ o. o < length scope.now.steps.now.pair.first.outputs) scope.now.outputs.now }
@@ -205,7 +210,7 @@ fn shown_in<R, P: Progress<R>>(
     marks: &[bool],
     plain: &mut Sweep,
     watch: &P,
-) -> Result<Option<Vec<Option<u32>>>, AllocError>
+) -> Result<Option<Vec<Option<Literal>>>, AllocError>
     requires closed { AreClosed scope.now.steps.now marks.now }
     requires outputs { All (λ o. o < length scope.now.steps.now.pair.first.outputs) scope.now.outputs.now }
     requires words { All (λ w. All (λ o. o < length scope.now.steps.now.pair.first.outputs) w.items) scope.now.words.now }
@@ -227,7 +232,7 @@ pub fn shown_below<R, P: Progress<R>>(
     rt: &R,
     scope: &Scope<'_>,
     watch: &P,
-) -> Result<Option<Vec<Option<u32>>>, AllocError>
+) -> Result<Option<Vec<Option<Literal>>>, AllocError>
     requires outputs { All (λ o. o < length scope.now.steps.now.pair.first.outputs) scope.now.outputs.now }
     requires words { All (λ w. All (λ o. o < length scope.now.steps.now.pair.first.outputs) w.items) scope.now.words.now }
     ensures { IfOk result (λ found. IfSome found (λ shown. TellEqual scope.now.steps.now.pair shown.items)) }

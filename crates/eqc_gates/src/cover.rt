@@ -9,14 +9,14 @@ ghost use Rattle.eqc_gates.specs.Literals.{AreWithin, AreAskedFor};
 use crate::expansion::table_literal;
 use crate::gate::all_of;
 use eqc_cover::table::{MOST_COLUMNS, cover_table};
-use eqc_graph::negated;
+use eqc_graph::{Literal, negated};
 use eqc_netlist::{Rows, is_on_set};
 use eqc_sweep::Sweep;
 use std::alloc::{AllocError, Global};
 
 /// The literals of the columns that have to be true where a row matches: a column or its
 /// complement. Fails where memory is refused.
-fn asked_for(alloc: Global, columns: &[u32], row: &[u8]) -> Result<Vec<u32>, AllocError>
+fn asked_for(alloc: Global, columns: &[Literal], row: &[u8]) -> Result<Vec<Literal>, AllocError>
     ensures { IfOk result (λ asked. AreAskedFor columns.now row.now asked.items) }
 {
     let mut asked = Vec::new(alloc);
@@ -34,7 +34,7 @@ fn asked_for(alloc: Global, columns: &[u32], row: &[u8]) -> Result<Vec<u32>, All
 fn row_literal(
     alloc: Global,
     sweep: &mut Sweep,
-    columns: &[u32],
+    columns: &[Literal],
     row: &[u8],
 ) -> Result<u32, AllocError>
     requires { AreWithin sweep.old columns.now }
@@ -49,7 +49,7 @@ fn row_literal(
 fn no_row_literal(
     alloc: Global,
     sweep: &mut Sweep,
-    columns: &[u32],
+    columns: &[Literal],
     rows: &Rows<'_>,
 ) -> Result<u32, AllocError>
     requires { AreWithin sweep.old columns.now }
@@ -70,7 +70,7 @@ fn no_row_literal(
 pub fn cover_literal(
     alloc: Global,
     sweep: &mut Sweep,
-    columns: &[u32],
+    columns: &[Literal],
     rows: &Rows<'_>,
 ) -> Result<u32, AllocError>
     requires { AreWithin sweep.old columns.now }

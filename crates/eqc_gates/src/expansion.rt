@@ -8,6 +8,7 @@ ghost use Rattle.eqc_gates.specs.Literals.{AreWithin};
 
 use crate::gate::multiplexer;
 use eqc_cover::table::{MOST_COLUMNS, best_column, cofactor, is_constant};
+use eqc_graph::Literal;
 use eqc_sweep::Sweep;
 use std::alloc::AllocError;
 
@@ -16,7 +17,7 @@ use std::alloc::AllocError;
 /// deep. Fails where memory is refused.
 pub(crate) fn table_literal(
     sweep: &mut Sweep,
-    columns: &[u32],
+    columns: &[Literal],
     table: u64,
     open_columns: [bool; MOST_COLUMNS],
 ) -> Result<u32, AllocError>

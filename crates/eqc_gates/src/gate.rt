@@ -5,12 +5,12 @@ ghost use Rattle.eqc_graph.specs.Graph.{literal_value, IsWithin, Extends};
 ghost use Rattle.eqc_sweep.specs.Sweeping.{HasValue};
 ghost use Rattle.eqc_gates.specs.Literals.{AreWithin};
 
-use eqc_graph::negated;
+use eqc_graph::{Literal, negated};
 use eqc_sweep::Sweep;
 use std::alloc::AllocError;
 
 /// The literal that is true where one of two is. Fails where memory is refused.
-fn or(sweep: &mut Sweep, x: u32, y: u32) -> Result<u32, AllocError>
+fn or(sweep: &mut Sweep, x: Literal, y: Literal) -> Result<Literal, AllocError>
     requires x { IsWithin sweep.old x }
     requires y { IsWithin sweep.old y }
     ensures value { IfOk result (λ l. HasValue sweep.new l (λ a. literal_value sweep.old a x || literal_value sweep.old a y)) }
@@ -22,7 +22,12 @@ fn or(sweep: &mut Sweep, x: u32, y: u32) -> Result<u32, AllocError>
 
 /// The literal that has the value of `high` where `x` is true, and that of `low` elsewhere. Fails
 /// where memory is refused.
-pub(crate) fn multiplexer(sweep: &mut Sweep, x: u32, high: u32, low: u32) -> Result<u32, AllocError>
+pub(crate) fn multiplexer(
+    sweep: &mut Sweep,
+    x: Literal,
+    high: Literal,
+    low: Literal,
+) -> Result<Literal, AllocError>
     requires x { IsWithin sweep.old x }
     requires high { IsWithin sweep.old high }
     requires low { IsWithin sweep.old low }
@@ -54,7 +59,7 @@ pub(crate) fn multiplexer(sweep: &mut Sweep, x: u32, high: u32, low: u32) -> Res
 
 /// The literal that is true where all of these are, of which there may be many: gates of two in a
 /// balanced tree. Fails where memory is refused.
-pub(crate) fn all_of(sweep: &mut Sweep, literals: Vec<u32>) -> Result<u32, AllocError>
+pub(crate) fn all_of(sweep: &mut Sweep, literals: Vec<Literal>) -> Result<Literal, AllocError>
     requires { AreWithin sweep.old literals.items }
     ensures value { IfOk result (λ l. HasValue sweep.new l (λ a. list_all (literal_value sweep.old a) literals.items)) }
     ensures extends { Extends sweep.old sweep.new }

@@ -10,11 +10,12 @@ use crate::cover::cover_literal;
 use crate::expansion::table_literal;
 use eqc_build::{StepDriver, Steps, Uses};
 use eqc_cover::table::MOST_COLUMNS;
+use eqc_graph::Literal;
 use eqc_sweep::Sweep;
 use std::alloc::{AllocError, Global};
 
 /// The literal of a step that has one.
-fn literal_at(table: &[Option<u32>], step: u32) -> u32
+fn literal_at(table: &[Option<Literal>], step: u32) -> Literal
     requires { IsSome (reference_of table.now step) }
     ensures { reference_of table.now step ≡ Some result }
 {
@@ -24,7 +25,7 @@ fn literal_at(table: &[Option<u32>], step: u32) -> u32
 /// The literals of the steps that a cover uses. Fails where memory is refused.
 fn literals_of(
     alloc: Global,
-    table: &[Option<u32>],
+    table: &[Option<Literal>],
     steps: &Uses<'_>,
 ) -> Result<Vec<u32>, AllocError>
     requires { AreReady table.now steps.now }
@@ -42,7 +43,7 @@ fn literals_of(
 fn step_literal(
     alloc: Global,
     steps: &Steps<'_>,
-    table: &[Option<u32>],
+    table: &[Option<Literal>],
     step: u32,
     sweep: &mut Sweep,
 ) -> Result<u32, AllocError>
@@ -83,7 +84,7 @@ pub fn literals<F: Fn(u32)>(
     marks: &[bool],
     sweep: &mut Sweep,
     told: &F,
-) -> Result<Vec<Option<u32>>, AllocError>
+) -> Result<Vec<Option<Literal>>, AllocError>
     requires closed { AreClosed steps.now marks.now }
     requires told { F.IsAlwaysCallable told.now }
     ensures size { IfOk result (λ table. length table.items ≡ steps_in steps.now.pair) }

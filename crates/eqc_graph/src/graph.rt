@@ -2,7 +2,7 @@
 ghost use Rattle.std.specs.Prelude.{◌≡◌, ℕ, ◌*◌, ◌/◌, ◌<◌, ◌≤◌, Bool, List, [], ◌∷◌, ◌++◌, length, take, IfOk, OnOk, OnErr};
 ghost use Rattle.eqc_graph.specs.Graph.{node_value, literal_value, IsBelow, node_at, IsGraph, Extends};
 
-use crate::Node;
+use crate::{Literal, Node};
 use std::alloc::{AllocError, Global};
 use std::marker::Model;
 
@@ -58,7 +58,7 @@ impl Graph {
     #[tactic(auto, using(crate::proofs::GraphLemmas::extends_more, crate::proofs::GraphLemmas::extends_itself, crate::proofs::GraphLemmas::value_pushed))]
     /// Puts a node behind the others, and gives its literal. Fails where memory is refused, or
     /// where there are 2^30 nodes.
-    pub fn push(&mut self, node: Node) -> Result<u32, AllocError>
+    pub fn push(&mut self, node: Node) -> Result<Literal, AllocError>
         requires { IsBelow (length self.old) node }
         ensures pushed { OnOk result (self.new ≡ self.old ++ node ∷ []) }
         ensures literal { IfOk result (λ l. l ≡ 2 * length self.old) }

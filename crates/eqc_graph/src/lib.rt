@@ -4,7 +4,7 @@
 //! complement, in one number. Read the modules in this order:
 //!
 //! - `node`, the kinds of nodes, with `specs/Graph.antt`: the values of nodes and literals
-//! - `literal`, the complement of a literal
+//! - `literal`, literals and their complements
 //! - `graph`, the row of nodes
 //!
 //! `proofs/GraphLemmas.antt` has what proofs above need besides the contracts, for
@@ -25,5 +25,5 @@ mod literal;
 mod node;
 
 pub use graph::Graph;
-pub use literal::{is_negated, negated, negated_if, node_of};
+pub use literal::{Literal, is_negated, negated, negated_if, node_of};
 pub use node::Node;

@@ -5,8 +5,12 @@ ghost use Rattle.eqc_graph.specs.Graph.{differ, literal_value};
 
 use crate::Node;
 
+/// A literal of a graph: twice the number of a node, and one more for its complement. Nodes and
+/// literals are numbers both, so that rows of them take four bytes each.
+pub type Literal = u32;
+
 /// The complement of a literal.
-pub fn negated(l: u32) -> u32
+pub fn negated(l: Literal) -> Literal
     ensures node { result / 2 ≡ l / 2 }
     ensures value { (nodes : List Node) (a : ℕ → Bool) → literal_value nodes a result ≡ not (literal_value nodes a l) }
 {
@@ -14,7 +18,7 @@ pub fn negated(l: u32) -> u32
 }
 
 /// The complement of a literal where `sign` says so, and else the literal.
-pub fn negated_if(l: u32, sign: bool) -> u32
+pub fn negated_if(l: Literal, sign: bool) -> Literal
     ensures node { result / 2 ≡ l / 2 }
     ensures value { (nodes : List Node) (a : ℕ → Bool) → literal_value nodes a result ≡ differ sign (literal_value nodes a l) }
 {
@@ -22,14 +26,14 @@ pub fn negated_if(l: u32, sign: bool) -> u32
 }
 
 /// The number of a literal's node.
-pub fn node_of(l: u32) -> u32
+pub fn node_of(l: Literal) -> u32
     ensures { result ≡ l / 2 }
 {
     l / 2
 }
 
 /// Whether a literal is the complement of its node.
-pub fn is_negated(l: u32) -> bool
+pub fn is_negated(l: Literal) -> bool
     ensures { result ≡ (l % 2 == 1) }
 {
     l % 2 == 1

@@ -1,4 +1,5 @@
 //! The kinds of nodes.
+use crate::Literal;
 
 /// A node of a graph. Operands are literals of earlier nodes.
 #[derive(Clone, Copy, PartialEq, Eq, Debug)]
@@ -8,7 +9,7 @@ pub enum Node {
     /// The value of a variable.
     Input(u32),
     /// Whether both literals are true.
-    And(u32, u32),
+    And(Literal, Literal),
     /// Whether just one of the literals is true.
-    Xor(u32, u32),
+    Xor(Literal, Literal),
 }

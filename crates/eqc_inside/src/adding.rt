@@ -10,7 +10,7 @@ use eqc_adders::has_adders;
 use eqc_build::Steps;
 use eqc_compare::{Alike, Progress, is_settled};
 use eqc_datapath::{MOST_NODES, Task, Turn, add_open, limits_in};
-use eqc_graph::{Node, node_of};
+use eqc_graph::{Literal, Node, node_of};
 use eqc_literals::literal_of;
 use eqc_netlist::Name;
 use eqc_numbers::words_of;
@@ -43,7 +43,7 @@ pub(crate) enum Meant {
 
 impl<'a> Inside<'a> {
     /// Whether the signal of a literal is an exclusive or.
-    fn is_sum(&self, literal: u32) -> bool {
+    fn is_sum(&self, literal: Literal) -> bool {
         let graph = self.sweep.graph();
         let node = node_of(literal);
         node < graph.len() && matches!(graph.node(node), Node::Xor(_, _))

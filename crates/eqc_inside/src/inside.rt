@@ -5,6 +5,7 @@ ghost use Rattle.eqc_literals.specs.Literals.{KeepsMarks};
 
 use eqc_build::Steps;
 use eqc_compare::Alike;
+use eqc_graph::Literal;
 use eqc_literals::{Owned, first_of_literal, outputs_of_one_literal};
 use eqc_sweep::Sweep;
 use std::alloc::{AllocError, Global};
@@ -15,7 +16,7 @@ use std::marker::Model;
 pub struct Inside<'a> {
     pub(crate) steps: Steps<'a>,
     pub(crate) sweep: Sweep,
-    pub(crate) literals: Vec<Option<u32>>,
+    pub(crate) literals: Vec<Option<Literal>>,
     /// The work that the searches for differences may do beside their conflicts, all together, yet.
     pub(crate) work: u64,
     /// The last of the least assignments that were found, as values of the first netlist's inputs,

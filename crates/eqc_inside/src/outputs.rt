@@ -9,6 +9,7 @@ ghost use Rattle.eqc_literals.specs.Literals.{IsInside, KeepsMarks};
 use crate::inside::Inside;
 use eqc_build::Steps;
 use eqc_compare::{Alike, Progress, is_marked};
+use eqc_graph::Literal;
 use eqc_literals::{NONE, literal_of, mark};
 use eqc_sweep::{Sweep, Twins};
 use std::alloc::{AllocError, Global};
@@ -19,7 +20,7 @@ use std::thread::Threads;
 const SIDE_BY_SIDE: usize = 16;
 
 /// Whether an output never differs, as these are its two literals.
-fn is_shown(steps: &Steps<'_>, sweep: &Sweep, literals: &[Option<u32>], twins: Twins) -> bool
+fn is_shown(steps: &Steps<'_>, sweep: &Sweep, literals: &[Option<Literal>], twins: Twins) -> bool
     requires inside { IsInside steps.now sweep.now literals.now }
     requires output { twins.place < length steps.now.pair.first.outputs }
     requires equal { IsTwin sweep.now twins }
@@ -41,7 +42,7 @@ fn is_shown(steps: &Steps<'_>, sweep: &Sweep, literals: &[Option<u32>], twins: T
 fn mark_shown(
     steps: &Steps<'_>,
     sweep: &Sweep,
-    literals: &[Option<u32>],
+    literals: &[Option<Literal>],
     twins: Twins,
     alike: &mut Alike,
 ) -> bool
@@ -64,7 +65,7 @@ fn mark_shown(
 fn mark_all(
     steps: &Steps<'_>,
     sweep: &Sweep,
-    literals: &[Option<u32>],
+    literals: &[Option<Literal>],
     equal: &[Twins],
     alike: &mut Alike,
 ) -> (usize, u64)

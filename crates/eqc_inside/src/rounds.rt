@@ -6,6 +6,7 @@ ghost use Rattle.eqc_compare.specs.Alike.{AreEqual, IsKnown};
 use crate::inside::Inside;
 use eqc_build::Steps;
 use eqc_compare::{Alike, Progress, is_settled};
+use eqc_graph::Literal;
 use eqc_literals::{NONE, Owned, literal_of, moved};
 use eqc_pair::Pair;
 use eqc_sweep::{Comparison, Effort, Sweep, Tally, below, copy, no_copies};
@@ -167,7 +168,7 @@ impl Rounds {
 pub(crate) fn open_literals(
     alloc: Global,
     steps: &Steps<'_>,
-    literals: &[Option<u32>],
+    literals: &[Option<Literal>],
     marks: &[bool],
     netlists: usize,
 ) -> Result<Vec<u32>, AllocError>
@@ -245,7 +246,7 @@ impl<'a> Inside<'a> {
         alike: &Alike,
         sweep: &mut Sweep,
         watch: &P,
-    ) -> Result<Vec<Option<u32>>, AllocError>
+    ) -> Result<Vec<Option<Literal>>, AllocError>
         requires { IsKnown self.now alike.now }
         ensures { IfOk result (λ all. AreLiterals self.now sweep.new all.items) }
     {

@@ -6,6 +6,7 @@ ghost use Rattle.eqc_literals.specs.Literals.{TellEqual};
 
 use crate::literal::{NONE, literal_of};
 use eqc_build::Steps;
+use eqc_graph::Literal;
 use std::alloc::{AllocError, Global};
 
 /// The step that is chosen in place of one.
@@ -30,7 +31,7 @@ fn first_with(firsts: &mut Vec<u32>, literal: usize, step: u32) -> u32
 }
 
 /// A number above all literals of steps.
-fn above_all(literals: &[Option<u32>]) -> u32 {
+fn above_all(literals: &[Option<Literal>]) -> u32 {
     let mut above = 0;
     for literal in literals {
         let literal = literal.unwrap_or(NONE);
@@ -49,7 +50,7 @@ pub fn first_of_literal(
     alloc: Global,
     steps: &Steps<'_>,
     chosen: &[u32],
-    literals: &[Option<u32>],
+    literals: &[Option<Literal>],
 ) -> Result<Vec<u32>, AllocError>
     requires choice { IsChoice steps.now.pair chosen.now }
     requires tell { TellEqual steps.now.pair literals.now }

@@ -6,6 +6,7 @@ ghost use Rattle.eqc_literals.specs.Literals.{IsInside};
 use eqc_build::Steps;
 use eqc_compare::Progress;
 use eqc_gates::literals;
+use eqc_graph::Literal;
 use eqc_sweep::Sweep;
 use std::alloc::{AllocError, Global};
 
@@ -24,7 +25,7 @@ pub fn entered<R, P: Progress<R>>(
     marks: &[bool],
     sweep: &mut Sweep,
     watch: &P,
-) -> Result<Vec<Option<u32>>, AllocError>
+) -> Result<Vec<Option<Literal>>, AllocError>
     requires { AreClosed steps.now marks.now }
     ensures { IfOk result (λ literals. IsInside steps.now sweep.new literals.items) }
 {

@@ -9,10 +9,11 @@ ghost use Rattle.eqc_literals.specs.Literals.{HaveOneLiteral, KeepsMarks, TellEq
 use crate::literal::{NONE, literal_of};
 use eqc_build::Steps;
 use eqc_compare::{Alike, is_marked};
+use eqc_graph::Literal;
 use std::alloc::{AllocError, Global};
 
 /// Whether two steps have one literal.
-fn have_one_literal(literals: &[Option<u32>], steps: [u32; 2]) -> bool
+fn have_one_literal(literals: &[Option<Literal>], steps: [u32; 2]) -> bool
     ensures { IsTrue result → HaveOneLiteral literals.now (slice_index steps 0) (slice_index steps 1) }
 {
     let literal = literal_of(literals, steps[0]);
@@ -22,7 +23,7 @@ fn have_one_literal(literals: &[Option<u32>], steps: [u32; 2]) -> bool
 /// Whether an output is marked, or its two steps have one literal.
 fn is_known_equal(
     steps: &Steps<'_>,
-    literals: &[Option<u32>],
+    literals: &[Option<Literal>],
     marks: &[bool],
     output: usize,
 ) -> bool
@@ -46,7 +47,7 @@ fn is_known_equal(
 pub fn outputs_of_one_literal(
     alloc: Global,
     steps: &Steps<'_>,
-    literals: &[Option<u32>],
+    literals: &[Option<Literal>],
     marks: &[bool],
 ) -> Result<Vec<bool>, AllocError>
     requires lawful { AreSteps steps.now }

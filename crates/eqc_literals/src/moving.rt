@@ -8,11 +8,16 @@ ghost use Rattle.eqc_build.specs.Steps.{value_at};
 ghost use Rattle.eqc_gates.specs.Entering.{AreLiterals};
 
 use crate::literal::entry;
+use eqc_graph::Literal;
 use eqc_sweep::copied;
 use std::alloc::{AllocError, Global};
 
 /// The literal of a step in another graph, where it has one there.
-fn moved_one(literals: &[Option<u32>], table: &[Option<u32>], step: usize) -> Option<u32>
+fn moved_one(
+    literals: &[Option<Literal>],
+    table: &[Option<Literal>],
+    step: usize,
+) -> Option<Literal>
     ensures { (p : PairOf) (old new : List Node) → AreLiterals p old literals.now → AreCopies old new table.now → IfSome result (λ l. HasValue new l (λ a. value_at p a step)) }
 {
     let literal = entry(literals, step)?;
@@ -25,9 +30,9 @@ fn moved_one(literals: &[Option<u32>], table: &[Option<u32>], step: usize) -> Op
 /// nodes there. Fails where memory is refused.
 pub fn moved(
     alloc: Global,
-    literals: &[Option<u32>],
-    table: &[Option<u32>],
-) -> Result<Vec<Option<u32>>, AllocError>
+    literals: &[Option<Literal>],
+    table: &[Option<Literal>],
+) -> Result<Vec<Option<Literal>>, AllocError>
     ensures { (p : PairOf) (old new : List Node) → AreLiterals p old literals.now → AreCopies old new table.now → IfOk result (λ all. AreLiterals p new all.items) }
 {
     let mut all = Vec::with_capacity(alloc, literals.len())?;

@@ -6,6 +6,7 @@ ghost use Rattle.eqc_compare.specs.Comparing.{netlist_of, assumption_of};
 ghost use Rattle.eqc_miter.specs.Asking.{SaysAllowed, TellsVacuous};
 
 use crate::difference::seen_true;
+use eqc_graph::Literal;
 use eqc_pair::Pair;
 use eqc_sweep::Sweep;
 use eqc_witness::{Hints, Target, Witness, least_witness};
@@ -36,7 +37,7 @@ pub fn is_never_allowed(
     alloc: Global,
     pair: &Pair<'_>,
     sweep: &mut Sweep,
-    literal: u32,
+    literal: Literal,
     conflicts: u64,
 ) -> Result<Option<bool>, AllocError>
     requires { SaysAllowed pair.now sweep.old literal }

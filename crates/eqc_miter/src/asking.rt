@@ -11,7 +11,7 @@ ghost use Rattle.eqc_miter.specs.Asking.{AreSomeOf, IsAnswerOf, IsAskedIn, IsQue
 use crate::conflicts::Conflicts;
 use crate::difference::{difference_literal, seen_true};
 use eqc_build::Steps;
-use eqc_graph::Graph;
+use eqc_graph::{Graph, Literal};
 use eqc_pair::Pair;
 use eqc_sweep::Sweep;
 use eqc_witness::{EARLIER, Hints, Target, Witness, least_witness};
@@ -24,7 +24,7 @@ pub struct Question {
     /// Its position in the first netlist.
     pub output: usize,
     /// The literal that is true where it differs.
-    pub literal: u32,
+    pub literal: Literal,
     /// Variables and their values under which simulation saw that: none where it didn't.
     pub seen: Vec<(u32, bool)>,
 }
@@ -98,7 +98,7 @@ pub fn question_of(
     alloc: Global,
     steps: &Steps<'_>,
     sweep: &mut Sweep,
-    literals: &[Option<u32>],
+    literals: &[Option<Literal>],
     output: usize,
 ) -> Result<Option<Question>, AllocError>
     requires inside { IsInside steps.now sweep.old literals.now }
@@ -127,7 +127,7 @@ pub fn questions_of(
     alloc: Global,
     steps: &Steps<'_>,
     sweep: &mut Sweep,
-    literals: &[Option<u32>],
+    literals: &[Option<Literal>],
     outputs: &[usize],
 ) -> Result<Vec<Question>, AllocError>
     requires inside { IsInside steps.now sweep.old literals.now }

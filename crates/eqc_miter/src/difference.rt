@@ -6,6 +6,7 @@ ghost use Rattle.eqc_literals.specs.Literals.{IsInside};
 ghost use Rattle.eqc_miter.specs.Asking.{LacksLiteral, SaysAllowed, SaysDifferent};
 
 use eqc_build::Steps;
+use eqc_graph::Literal;
 use eqc_literals::{NONE, literal_of};
 use eqc_sweep::{Comparison, Sweep};
 use std::alloc::{AllocError, Global};
@@ -13,7 +14,11 @@ use std::alloc::{AllocError, Global};
 #[tactic(auto, using(crate::proofs::AskingLaws::lacks_root))]
 /// The literal that is true where the assumption allows the inputs' values: always, if there is
 /// none. None where its step has no literal. `literals` are those of the steps, in the graph.
-pub fn allowed_literal(steps: &Steps<'_>, sweep: &Sweep, literals: &[Option<u32>]) -> Option<u32>
+pub fn allowed_literal(
+    steps: &Steps<'_>,
+    sweep: &Sweep,
+    literals: &[Option<Literal>],
+) -> Option<Literal>
     requires { IsInside steps.now sweep.now literals.now }
     ensures allowed { IfSome result (SaysAllowed steps.now.pair sweep.now) }
     ensures none { result ≡ None → (output : ℕ) → LacksLiteral steps.now literals.now output }
@@ -34,7 +39,7 @@ pub fn allowed_literal(steps: &Steps<'_>, sweep: &Sweep, literals: &[Option<u32>
 pub(crate) fn difference_literal(
     steps: &Steps<'_>,
     sweep: &mut Sweep,
-    literals: &[Option<u32>],
+    literals: &[Option<Literal>],
     output: usize,
 ) -> Result<Option<u32>, AllocError>
     requires inside { IsInside steps.now sweep.old literals.now }
@@ -60,7 +65,7 @@ pub(crate) fn difference_literal(
 
 /// Variables and their values under which simulation saw the literal true: none where it didn't.
 /// Nothing is promised of it.
-pub(crate) fn seen_true(alloc: Global, sweep: &mut Sweep, literal: u32) -> Vec<(u32, bool)>
+pub(crate) fn seen_true(alloc: Global, sweep: &mut Sweep, literal: Literal) -> Vec<(u32, bool)>
     requires { IsWithin sweep.old literal }
     ensures { sweep.new ≡ sweep.old }
 {

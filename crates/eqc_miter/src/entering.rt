@@ -10,6 +10,7 @@ use crate::difference::difference_literal;
 use eqc_build::Steps;
 use eqc_compare::{is_marked, is_settled};
 use eqc_gates::{literals, needed, needed_within};
+use eqc_graph::Literal;
 use eqc_literals::CHARACTERS;
 use eqc_pair::Pair;
 use eqc_sweep::Sweep;
@@ -52,7 +53,7 @@ fn differences(
     alloc: Global,
     steps: &Steps<'_>,
     sweep: &mut Sweep,
-    literals: &[Option<u32>],
+    literals: &[Option<Literal>],
     wanted: &[bool],
 ) -> Result<(Vec<u32>, Vec<usize>), AllocError>
     requires inside { IsInside steps.now sweep.old literals.now }
@@ -77,7 +78,7 @@ fn differences(
 #[derive(Drop)]
 pub struct Entered {
     /// The literals of the steps that are wanted: none of the others.
-    pub literals: Vec<Option<u32>>,
+    pub literals: Vec<Option<Literal>>,
     /// The work that it took to see which others aren't.
     pub work: u64,
 }
@@ -90,7 +91,7 @@ fn entered_untold(
     steps: &Steps<'_>,
     marks: &[bool],
     sweep: &mut Sweep,
-) -> Result<Vec<Option<u32>>, AllocError>
+) -> Result<Vec<Option<Literal>>, AllocError>
     requires { AreClosed steps.now marks.now }
     ensures { IfOk result (λ literals. IsInside steps.now sweep.new literals.items) }
 {
@@ -104,7 +105,7 @@ fn entered_untold(
 fn first_seen(
     alloc: Global,
     steps: &Steps<'_>,
-    literals: &[Option<u32>],
+    literals: &[Option<Literal>],
     wanted: &[bool],
     sweep: &mut Sweep,
 ) -> Result<Option<usize>, AllocError>
@@ -121,7 +122,7 @@ fn first_seen(
 
 #[tactic(auto, using(crate::proofs::EnteringLaws::inside_without))]
 /// Takes the literals of steps away that aren't marked. Their nodes stay in the graph.
-fn forget_unmarked(literals: &mut Vec<Option<u32>>, marks: &[bool])
+fn forget_unmarked(literals: &mut Vec<Option<Literal>>, marks: &[bool])
     ensures { (g : StepsOf) (nodes : List Node) → IsInside g nodes literals.old.items → IsInside g nodes literals.new.items }
 {
     for step in 0..literals.len() {

@@ -11,7 +11,7 @@ use crate::chains::{Shape, copy_shaped};
 use crate::compared::{Found, Search, TURNS};
 use crate::cuts::are_equal_over_cuts;
 use crate::shown::{Look, Words, are_shown_equal, are_shown_in, copies, copy_both};
-use eqc_graph::Graph;
+use eqc_graph::{Graph, Literal};
 use eqc_products::{Made, Reference, References, is_sum_of_products, make_array, make_references};
 use eqc_sweep::{Effort, Sweep};
 use std::alloc::{AllocError, Global};
@@ -28,7 +28,7 @@ const AS_MADE: u32 = 980;
 const REWRITTEN: u32 = 4;
 
 /// Makes a word of a netlist that is made anew in a graph. Fails where memory is refused.
-fn enter(alloc: Global, sweep: &mut Sweep, made: &Made) -> Result<Vec<u32>, AllocError>
+fn enter(alloc: Global, sweep: &mut Sweep, made: &Made) -> Result<Vec<Literal>, AllocError>
     ensures { Extends sweep.old sweep.new }
 {
     let Made { graph, word } = made;
@@ -42,7 +42,7 @@ fn found_equal<'a>(
     word: &Words<'_>,
     graph: &Graph,
     reference: &Reference,
-    anew: &'a [u32],
+    anew: &'a [Literal],
 ) -> Result<Option<&'a [u32]>, AllocError>
     ensures { IfOk result (λ found. IfSome found (λ w. AreEqualWords graph.now word.now.firsts.now w.now)) }
 {
@@ -58,7 +58,7 @@ fn found_equal<'a>(
 
 #[tactic(auto, using(crate::proofs::ShownLaws::equal_along))]
 /// Whether two words are shown equal by what both add up to as another one does.
-fn are_added_up_by(words: &Words<'_>, graph: &Graph, third: &[u32]) -> Result<bool, AllocError>
+fn are_added_up_by(words: &Words<'_>, graph: &Graph, third: &[Literal]) -> Result<bool, AllocError>
     ensures { IfOk result (λ is. IsTrue is → AreEqualWords graph.now words.now.firsts.now words.now.seconds.now) }
 {
     let first = Words {
@@ -132,7 +132,7 @@ fn are_added_up(words: &Words<'_>, graph: &Graph) -> Result<bool, AllocError>
 
 #[tactic(auto, using(crate::proofs::ShownLaws::equal_along))]
 /// Whether two words are shown equal, of which one that was made anew is equal to the first one.
-fn are_equal_from(words: &Words<'_>, graph: &Graph, one: &[u32]) -> Result<bool, AllocError>
+fn are_equal_from(words: &Words<'_>, graph: &Graph, one: &[Literal]) -> Result<bool, AllocError>
     requires equal { AreEqualWords graph.now words.now.firsts.now one.now }
     ensures { IfOk result (λ is. IsTrue is → AreEqualWords graph.now words.now.firsts.now words.now.seconds.now) }
 {
@@ -149,7 +149,7 @@ fn are_equal_to(
     words: &Words<'_>,
     graph: &Graph,
     one: Option<&[u32]>,
-    other: &[u32],
+    other: &[Literal],
 ) -> Result<bool, AllocError>
     requires one { IfSome one (λ w. AreEqualWords graph.now words.now.firsts.now w.now) }
     requires other { AreEqualWords graph.now words.now.seconds.now other.now }
@@ -194,8 +194,8 @@ fn are_equal_in(
     words: &Words<'_>,
     graph: &Graph,
     anew: &References,
-    first: &[u32],
-    second: &[u32],
+    first: &[Literal],
+    second: &[Literal],
 ) -> Result<bool, AllocError>
     ensures { IfOk result (λ is. IsTrue is → AreEqualWords graph.now words.now.firsts.now words.now.seconds.now) }
 {

@@ -14,7 +14,7 @@ ghost use Rattle.eqc_numbers.specs.Chains.{IsBoth, IsShared, IsSplit, IsPrefix};
 
 use crate::leaves::{Leaves, make_left};
 use crate::marks::mark;
-use eqc_graph::{Graph, Node, is_negated, negated, node_of};
+use eqc_graph::{Graph, Literal, Node, is_negated, negated, node_of};
 use eqc_sweep::{Sweep, below, copied, no_copies};
 use std::alloc::{AllocError, Global};
 
@@ -40,23 +40,23 @@ const SPANS: u32 = 256;
 /// one is not `made` less `passed`.
 #[derive(Clone, Copy)]
 pub(crate) struct Split {
-    pub(crate) upper: u32,
-    pub(crate) shared: u32,
-    pub(crate) made: u32,
-    pub(crate) passed: u32,
+    pub(crate) upper: Literal,
+    pub(crate) shared: Literal,
+    pub(crate) made: Literal,
+    pub(crate) passed: Literal,
 }
 
 /// A node that is u less the conjunction of b and c.
 #[derive(Clone, Copy)]
 pub(crate) struct Prefix {
-    pub(crate) span: u32,
-    pub(crate) passed: u32,
-    pub(crate) carry: u32,
+    pub(crate) span: Literal,
+    pub(crate) passed: Literal,
+    pub(crate) carry: Literal,
 }
 
 #[tactic(auto, using(crate::proofs::ChainLemmas::both_of))]
 /// The two literals of whose conjunction a literal is, if it is one.
-fn both(graph: &Graph, literal: u32) -> Option<(u32, u32)>
+fn both(graph: &Graph, literal: Literal) -> Option<(Literal, Literal)>
     ensures { IfSome result (λ two. IsBoth graph.now literal two.0 two.1) }
 {
     let node = node_of(literal);
@@ -71,7 +71,7 @@ fn both(graph: &Graph, literal: u32) -> Option<(u32, u32)>
 
 #[tactic(auto, using(crate::proofs::ChainLemmas::shared_first, crate::proofs::ChainLemmas::shared_crossed, crate::proofs::ChainLemmas::shared_back, crate::proofs::ChainLemmas::shared_second))]
 /// The literal that two conjunctions share, and the other ones of each.
-fn shared(one: (u32, u32), other: (u32, u32)) -> Option<(u32, u32, u32)>
+fn shared(one: (u32, u32), other: (u32, u32)) -> Option<(Literal, Literal, Literal)>
     ensures { IfSome result (λ r. (nodes : List Node) (x y : ℕ) → IsBoth nodes x one.0 one.1 → IsBoth nodes y other.0 other.1 → IsShared nodes x y r.0 r.1 r.2) }
 {
     if one.0 == other.0 {
@@ -91,7 +91,13 @@ fn shared(one: (u32, u32), other: (u32, u32)) -> Option<(u32, u32, u32)>
 
 /// The split of a span, where its first literal is one without a conjunction that shares a literal
 /// with the second.
-fn split_by(graph: &Graph, span: u32, passed: u32, upper: u32, without: u32) -> Option<Split>
+fn split_by(
+    graph: &Graph,
+    span: Literal,
+    passed: Literal,
+    upper: Literal,
+    without: Literal,
+) -> Option<Split>
     requires { IsBoth graph.now span upper without }
     ensures { IfSome result (λ s. IsSplit graph.now span passed s.upper s.shared s.made s.passed) }
 {
@@ -109,7 +115,7 @@ fn split_by(graph: &Graph, span: u32, passed: u32, upper: u32, without: u32) -> 
 
 #[tactic(auto, using(crate::proofs::ChainLemmas::both_turned))]
 /// The split of a span, if it is made of two.
-fn split_of(graph: &Graph, span: u32, passed: u32) -> Option<Split>
+fn split_of(graph: &Graph, span: Literal, passed: Literal) -> Option<Split>
     ensures { IfSome result (λ s. IsSplit graph.now span passed s.upper s.shared s.made s.passed) }
 {
     let (x, y) = both(graph, span)?;
@@ -122,7 +128,7 @@ fn split_of(graph: &Graph, span: u32, passed: u32) -> Option<Split>
 #[tactic(auto, using(crate::proofs::ChainLemmas::prefix_made, crate::proofs::ChainLemmas::both_turned))]
 /// A conjunction as what a span that is made of two makes of a carry, where it is a literal without
 /// a conjunction of these.
-fn prefix_by(graph: &Graph, node: u32, span: u32, without: u32) -> Option<Prefix>
+fn prefix_by(graph: &Graph, node: u32, span: Literal, without: Literal) -> Option<Prefix>
     requires { IsBoth graph.now (2 * node) span without }
     ensures { IfSome result (λ p. IsPrefix graph.now node p.span p.passed p.carry) }
 {
@@ -161,11 +167,11 @@ fn prefix_of(graph: &Graph, node: u32) -> Option<Prefix>
 #[tactic(auto, using(crate::proofs::ChainLemmas::made_value, eqc_sums::proofs::GateLemmas::extends_both))]
 /// The literal of what a span makes of a carry, where its literals have copies.
 fn made(
-    table: &[Option<u32>],
+    table: &[Option<Literal>],
     sweep: &mut Sweep,
-    span: u32,
-    passed: u32,
-    carry: u32,
+    span: Literal,
+    passed: Literal,
+    carry: Literal,
 ) -> Result<Option<u32>, AllocError>
     requires { IsWithin sweep.old carry }
     ensures extends { Extends sweep.old sweep.new }
@@ -190,7 +196,7 @@ fn made(
 /// literal has no copy there is none.
 fn chain(
     graph: &Graph,
-    table: &[Option<u32>],
+    table: &[Option<Literal>],
     sweep: &mut Sweep,
     prefix: Prefix,
     depth: u32,
@@ -225,7 +231,7 @@ fn chain(
 /// The literal of a gate in a copy of a graph, where its literals have copies.
 fn gate_copy(
     node: Node,
-    table: &[Option<u32>],
+    table: &[Option<Literal>],
     sweep: &mut Sweep,
 ) -> Result<Option<u32>, AllocError>
     ensures extends { Extends sweep.old sweep.new }
@@ -265,7 +271,7 @@ fn gate_copy(
 /// The literal of what a span that is made of two makes of a carry, in a copy of the graph.
 fn prefix_copy(
     graph: &Graph,
-    table: &[Option<u32>],
+    table: &[Option<Literal>],
     sweep: &mut Sweep,
     prefix: Prefix,
 ) -> Result<Option<u32>, AllocError>
@@ -290,7 +296,7 @@ fn prefix_copy(
 fn node_copy(
     graph: &Graph,
     k: u32,
-    table: &[Option<u32>],
+    table: &[Option<Literal>],
     sweep: &mut Sweep,
     shape: Shape,
 ) -> Result<Option<u32>, AllocError>
@@ -315,7 +321,7 @@ fn enter(
     graph: &Graph,
     k: u32,
     sweep: &mut Sweep,
-    table: &mut Vec<Option<u32>>,
+    table: &mut Vec<Option<Literal>>,
     shape: Shape,
 ) -> Result<(), AllocError>
     requires within { k < length graph.now }
@@ -335,7 +341,7 @@ fn enter(
 fn prepare(
     node: Node,
     leaves: &mut Leaves,
-    table: &[Option<u32>],
+    table: &[Option<Literal>],
     sweep: &mut Sweep,
 ) -> Result<(), AllocError>
     ensures { Extends sweep.old sweep.new }
@@ -379,7 +385,7 @@ fn mark_chain(
 fn entering(
     alloc: Global,
     graph: &Graph,
-    literals: &[u32],
+    literals: &[Literal],
     shape: Shape,
 ) -> Result<Vec<bool>, AllocError> {
     if shape == Shape::Plain {
@@ -417,10 +423,10 @@ fn entering(
 pub fn copy_shaped(
     alloc: Global,
     graph: &Graph,
-    literals: &[u32],
+    literals: &[Literal],
     sweep: &mut Sweep,
     shape: Shape,
-) -> Result<Vec<Option<u32>>, AllocError>
+) -> Result<Vec<Option<Literal>>, AllocError>
     ensures extends { Extends sweep.old sweep.new }
     ensures copies { IfOk result (λ table. AreCopies graph.now sweep.new table.items) }
 {

@@ -5,7 +5,7 @@ ghost use Rattle.eqc_graph.specs.Graph.{literal_value, node_value, IsBelow, IsGr
 ghost use Rattle.eqc_numbers.specs.Cases.{IsCofactor};
 
 use crate::marks::mark;
-use eqc_graph::{Graph, Node, is_negated, node_of};
+use eqc_graph::{Graph, Literal, Node, is_negated, node_of};
 use eqc_sweep::below;
 use std::alloc::{AllocError, Global};
 
@@ -56,7 +56,7 @@ pub(crate) fn cofactor(
 }
 
 /// What is known of a literal, where so much is known of nodes.
-fn known(values: &[Option<bool>], literal: u32) -> Option<bool> {
+fn known(values: &[Option<bool>], literal: Literal) -> Option<bool> {
     let value = values.get(node_of(literal) as usize).copied().flatten()?;
     Some(value != is_negated(literal))
 }
@@ -97,7 +97,7 @@ fn values_where(
 fn size_where(
     alloc: Global,
     graph: &Graph,
-    literals: &[u32],
+    literals: &[Literal],
     given: Option<(u32, bool)>,
 ) -> Result<u64, AllocError> {
     let values = values_where(alloc, graph, given)?;
@@ -133,7 +133,7 @@ fn size_where(
 pub(crate) fn control_of(
     alloc: Global,
     graph: &Graph,
-    literals: &[u32],
+    literals: &[Literal],
 ) -> Result<Option<Control>, AllocError> {
     let whole = size_where(alloc, graph, literals, None)?;
     let marks = below(alloc, graph, literals)?;

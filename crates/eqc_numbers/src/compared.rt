@@ -6,7 +6,7 @@ ghost use Rattle.eqc_sums.specs.Adding.{AreEqualWords};
 
 use crate::chains::Shape;
 use crate::shown::{CHEAP, Words, copies, copy_both};
-use eqc_graph::{Graph, Node, node_of};
+use eqc_graph::{Graph, Literal, Node, node_of};
 use eqc_sweep::{Comparison, Effort, Sweep};
 use std::alloc::{AllocError, Global};
 
@@ -67,7 +67,7 @@ pub(crate) enum Found {
 }
 
 /// Whether half of the literals of both words are exclusive ors.
-fn are_sums(graph: &Graph, ps: &[u32], qs: &[u32]) -> bool {
+fn are_sums(graph: &Graph, ps: &[Literal], qs: &[Literal]) -> bool {
     let mut count = 0usize;
     'bits: for literal in ps.iter().chain(qs) {
         let node = node_of(*literal);
@@ -83,7 +83,7 @@ fn are_sums(graph: &Graph, ps: &[u32], qs: &[u32]) -> bool {
 /// refused.
 fn found_of_copies(
     words: &Words<'_>,
-    table: &[Option<u32>],
+    table: &[Option<Literal>],
     sweep: &mut Sweep,
     search: Search,
 ) -> Result<Found, AllocError>

@@ -10,7 +10,7 @@ ghost use Rattle.eqc_numbers.specs.Cuts.{IsCut, StandsFor};
 use crate::anew::{Aim, are_equal_by_way_of_references};
 use crate::chains::{Shape, copy_shaped};
 use crate::shown::{CHEAP, Words, copies, copy_both};
-use eqc_graph::{Graph, Node, node_of};
+use eqc_graph::{Graph, Literal, Node, node_of};
 use eqc_products::is_sum_of_products;
 use eqc_sweep::{Effort, Sweep, below};
 use std::alloc::{AllocError, Global};
@@ -58,7 +58,7 @@ fn cut_graph(alloc: Global, graph: &Graph, cuts: &[bool]) -> Result<Graph, Alloc
 }
 
 /// Counts a gate at an operand of it.
-fn count(uses: &mut Vec<u32>, literal: u32) {
+fn count(uses: &mut Vec<u32>, literal: Literal) {
     let at = node_of(literal) as usize;
     if at < uses.len() {
         uses[at] = uses[at].saturating_add(1);
@@ -67,7 +67,7 @@ fn count(uses: &mut Vec<u32>, literal: u32) {
 
 /// Of how many gates below a word each node is an operand: of none if it isn't below it itself.
 /// Fails where memory is refused.
-fn uses_below(alloc: Global, graph: &Graph, word: &[u32]) -> Result<Vec<u32>, AllocError> {
+fn uses_below(alloc: Global, graph: &Graph, word: &[Literal]) -> Result<Vec<u32>, AllocError> {
     let marks = below(alloc, graph, word)?;
     let mut uses = vec![in alloc; 0u32; graph.len() as usize]?;
     for k in 0..graph.len() {
@@ -91,8 +91,8 @@ fn is_gate(graph: &Graph, k: u32) -> bool {
 fn cuts_of(
     alloc: Global,
     graph: &Graph,
-    firsts: &[u32],
-    seconds: &[u32],
+    firsts: &[Literal],
+    seconds: &[Literal],
 ) -> Result<Option<Vec<bool>>, AllocError> {
     let one = uses_below(alloc, graph, firsts)?;
     let other = uses_below(alloc, graph, seconds)?;
@@ -112,7 +112,7 @@ fn cuts_of(
 fn note_factors(
     alloc: Global,
     graph: &Graph,
-    word: &[u32],
+    word: &[Literal],
     factors: &mut Vec<u32>,
 ) -> Result<(), AllocError> {
     let uses = uses_below(alloc, graph, word)?;
@@ -127,7 +127,7 @@ fn note_factors(
 
 /// Whether a word is a sum of products of gates of which many others are made below it, or of
 /// inputs. Nothing is promised of it. Fails where memory is refused.
-fn is_product(alloc: Global, graph: &Graph, word: &[u32]) -> Result<bool, AllocError> {
+fn is_product(alloc: Global, graph: &Graph, word: &[Literal]) -> Result<bool, AllocError> {
     let Some(cuts) = cuts_of(alloc, graph, word, word)? else {
         return Ok(false);
     };
@@ -139,7 +139,7 @@ fn is_product(alloc: Global, graph: &Graph, word: &[u32]) -> Result<bool, AllocE
 /// Fails where memory is refused.
 fn are_equal_in_copy(
     words: &Words<'_>,
-    table: &[Option<u32>],
+    table: &[Option<Literal>],
     graph: &Graph,
 ) -> Result<bool, AllocError>
     ensures { (old : List Node) → AreCopies old graph.now table.now → IfOk result (λ is. IsTrue is → AreEqualWords old words.now.firsts.now words.now.seconds.now) }
@@ -168,7 +168,7 @@ fn copy_over_factors(
     words: &Words<'_>,
     graph: &Graph,
     sweep: &mut Sweep,
-) -> Result<Vec<Option<u32>>, AllocError>
+) -> Result<Vec<Option<Literal>>, AllocError>
     ensures { IfOk result (λ table. AreCopies graph.now sweep.new table.items) }
 {
     let mut factors = Vec::new(words.alloc);

@@ -4,7 +4,7 @@
 ghost use Rattle.eqc_graph.specs.Graph.{Extends};
 
 use eqc_adders::{ROOM, Support, differing, of_one};
-use eqc_graph::{Graph, Node, node_of};
+use eqc_graph::{Graph, Literal, Node, node_of};
 use eqc_sweep::Sweep;
 use std::alloc::{AllocError, Global};
 
@@ -22,7 +22,7 @@ impl Leaves {
         }
     }
 
-    fn of(&self, literal: u32) -> Support {
+    fn of(&self, literal: Literal) -> Support {
         match self.nodes.get(node_of(literal) as usize) {
             None => Support::many(),
             Some(leaves) => *leaves,
@@ -45,7 +45,7 @@ impl Leaves {
     }
 
     /// What is left of two literals in their exclusive or, where something cancels out.
-    fn left(&self, x: u32, y: u32) -> Option<Support> {
+    fn left(&self, x: Literal, y: Literal) -> Option<Support> {
         let left = differing(self.of(x), self.of(y));
         let both = self.of(x).count().saturating_add(self.of(y).count());
         if left.count() > ROOM || left.count() == both {
@@ -61,8 +61,8 @@ impl Leaves {
 pub(crate) fn make_left(
     leaves: &mut Leaves,
     sweep: &mut Sweep,
-    x: u32,
-    y: u32,
+    x: Literal,
+    y: Literal,
 ) -> Result<(), AllocError>
     ensures { Extends sweep.old sweep.new }
 {

@@ -4,12 +4,12 @@
 use crate::chains::Shape;
 use crate::shown::{CHEAP, Words, copies, copy_both};
 use eqc_adders::{Lookalikes, Sums};
-use eqc_graph::{Graph, is_negated, negated_if, node_of};
+use eqc_graph::{Graph, Literal, is_negated, negated_if, node_of};
 use eqc_sweep::{Effort, Sweep};
 use std::alloc::{AllocError, Global};
 
 /// By nodes of a copy of a graph, the literal of the graph's lowest node that is one there.
-fn origins(alloc: Global, table: &[Option<u32>], nodes: u32) -> Result<Vec<u32>, AllocError> {
+fn origins(alloc: Global, table: &[Option<Literal>], nodes: u32) -> Result<Vec<u32>, AllocError> {
     let mut origins = vec![in alloc; 0; nodes as usize]?;
     for back in 0..table.len() {
         let k = table.len() - 1 - back;
@@ -24,7 +24,7 @@ fn origins(alloc: Global, table: &[Option<u32>], nodes: u32) -> Result<Vec<u32>,
 }
 
 /// The literals of a graph whose copies these are, false for those that have none.
-fn originals(alloc: Global, origins: &[u32], literals: &[u32]) -> Result<Vec<u32>, AllocError> {
+fn originals(alloc: Global, origins: &[u32], literals: &[Literal]) -> Result<Vec<u32>, AllocError> {
     let mut all = Vec::with_capacity(alloc, literals.len())?;
     for literal in literals {
         let origin = origins
@@ -41,7 +41,7 @@ fn originals(alloc: Global, origins: &[u32], literals: &[u32]) -> Result<Vec<u32
 /// longer.
 fn lookalikes_in(
     netlists: &Words<'_>,
-    table: &[Option<u32>],
+    table: &[Option<Literal>],
     sums: &mut Sums,
 ) -> Result<Vec<Lookalikes>, AllocError> {
     let alloc = netlists.alloc;

@@ -1,9 +1,9 @@
 //! Marks of a graph's nodes.
 
-use eqc_graph::node_of;
+use eqc_graph::{Literal, node_of};
 
 /// Marks the node of a literal, if it has a mark.
-pub(crate) fn mark(marks: &mut Vec<bool>, literal: u32) {
+pub(crate) fn mark(marks: &mut Vec<bool>, literal: Literal) {
     let at = node_of(literal) as usize;
     if at < marks.len() {
         marks[at] = true;

@@ -7,7 +7,7 @@ ghost use Rattle.eqc_numbers.specs.Copies.{AreCopiesOf};
 
 use crate::chains::{Shape, copy_shaped};
 use eqc_adders::{Limits, Sums};
-use eqc_graph::Graph;
+use eqc_graph::{Graph, Literal};
 use eqc_sweep::{Effort, Sweep, copied};
 use std::alloc::{AllocError, Global};
 
@@ -15,9 +15,9 @@ use std::alloc::{AllocError, Global};
 #[derive(Clone, Copy)]
 pub struct Words<'a> {
     pub alloc: Global,
-    pub firsts: &'a [u32],
+    pub firsts: &'a [Literal],
     /// As many literals as the first word has.
-    pub seconds: &'a [u32],
+    pub seconds: &'a [Literal],
     /// What may be done to show what they add up to.
     pub limits: Limits,
 }
@@ -72,8 +72,8 @@ fn draw(sweep: &mut Sweep, count: u32) -> Result<(), AllocError> {
 /// The copies of literals, up to the first one that has none. Fails where memory is refused.
 pub(crate) fn copies(
     alloc: Global,
-    table: &[Option<u32>],
-    literals: &[u32],
+    table: &[Option<Literal>],
+    literals: &[Literal],
 ) -> Result<Vec<u32>, AllocError>
     ensures { (old new : List Node) → AreCopies old new table.now → IfOk result (λ cs. AreCopiesOf old new literals.now cs.items) }
 {
@@ -95,7 +95,7 @@ pub(crate) fn copy_both(
     graph: &Graph,
     sweep: &mut Sweep,
     shape: Shape,
-) -> Result<Vec<Option<u32>>, AllocError>
+) -> Result<Vec<Option<Literal>>, AllocError>
     ensures { IfOk result (λ table. AreCopies graph.now sweep.new table.items) }
 {
     let mut asked = Vec::new(words.alloc);
@@ -113,7 +113,7 @@ fn copy_words(
     graph: &Graph,
     sweep: &mut Sweep,
     turn: u32,
-) -> Result<Vec<Option<u32>>, AllocError>
+) -> Result<Vec<Option<Literal>>, AllocError>
     ensures { IfOk result (λ table. AreCopies graph.now sweep.new table.items) }
 {
     draw(sweep, turn)?;
@@ -129,7 +129,7 @@ fn copy_words(
 /// that takes many times longer.
 fn show_copies(
     words: &Words<'_>,
-    table: &[Option<u32>],
+    table: &[Option<Literal>],
     sums: &mut Sums,
     look: Look,
 ) -> Result<bool, AllocError>

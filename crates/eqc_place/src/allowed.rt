@@ -8,14 +8,19 @@ ghost use Rattle.eqc_place.specs.Places.{AreProved};
 use crate::partner::{literal_at, second_steps};
 use crate::told::values_under;
 use eqc_build::Steps;
-use eqc_graph::negated_if;
+use eqc_graph::{Literal, negated_if};
 use eqc_sweep::Sweep;
 use std::alloc::{AllocError, Global};
 
 /// A literal that has the value of another one wherever an assumption holds: its conjunction with
 /// that, or where `sign` says so the complement of that of its complement. Fails where memory is
 /// refused.
-fn under(sweep: &mut Sweep, assumed: u32, literal: u32, sign: bool) -> Result<u32, AllocError>
+fn under(
+    sweep: &mut Sweep,
+    assumed: Literal,
+    literal: Literal,
+    sign: bool,
+) -> Result<Literal, AllocError>
     requires assumed { IsWithin sweep.old assumed }
     requires literal { IsWithin sweep.old literal }
     ensures extends { Extends sweep.old sweep.new }
@@ -36,10 +41,10 @@ fn under(sweep: &mut Sweep, assumed: u32, literal: u32, sign: bool) -> Result<u3
 pub(crate) fn literals_where_allowed(
     alloc: Global,
     steps: &Steps<'_>,
-    literals: &[Option<u32>],
+    literals: &[Option<Literal>],
     inputs: &[bool],
     sweep: &mut Sweep,
-) -> Result<Vec<Option<u32>>, AllocError>
+) -> Result<Vec<Option<Literal>>, AllocError>
     requires { AreLiterals steps.now.pair sweep.old literals.now }
     ensures { IfOk result (λ table. AreProved steps.now.pair table.items) }
 {

@@ -6,6 +6,7 @@ ghost use Rattle.eqc_build.specs.Steps.{steps_in};
 use crate::partner::NONE;
 use crate::words::word_at;
 use eqc_build::{StepDriver, Steps, Uses};
+use eqc_graph::Literal;
 use eqc_netlist::{Rows, is_on_set};
 use std::alloc::{AllocError, Global};
 
@@ -30,7 +31,7 @@ pub(crate) struct Covers {
     covers: Vec<Cover>,
     /// Where the literals of each row end; they begin where those of the row before end.
     ends: Vec<usize>,
-    literals: Vec<u32>,
+    literals: Vec<Literal>,
 }
 
 impl Covers {

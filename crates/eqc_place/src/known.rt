@@ -2,7 +2,7 @@
 //! too, or stands below one. Nothing is believed of it.
 
 use crate::partner::literal_at;
-use eqc_graph::{Graph, node_of};
+use eqc_graph::{Graph, Literal, node_of};
 use eqc_sweep::below;
 use std::alloc::{AllocError, Global};
 
@@ -17,7 +17,7 @@ pub(crate) struct Known {
 /// The literals of the steps from one to another. Fails where memory is refused.
 fn literals_from(
     alloc: Global,
-    literals: &[Option<u32>],
+    literals: &[Option<Literal>],
     from: u32,
     to: u32,
 ) -> Result<Vec<u32>, AllocError> {
@@ -36,7 +36,7 @@ impl Known {
     pub(crate) fn of(
         alloc: Global,
         graph: &Graph,
-        literals: &[Option<u32>],
+        literals: &[Option<Literal>],
         second: u32,
         end: u32,
     ) -> Result<Known, AllocError> {
@@ -50,7 +50,7 @@ impl Known {
 
     /// Whether a step of the second netlist, or else of the first, is known in the other one. What
     /// never entered is taken to be.
-    pub(crate) fn has(&self, literals: &[Option<u32>], step: u32, is_second: bool) -> bool {
+    pub(crate) fn has(&self, literals: &[Option<Literal>], step: u32, is_second: bool) -> bool {
         let Some(literal) = literal_at(literals, step) else {
             return true;
         };

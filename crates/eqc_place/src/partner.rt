@@ -5,7 +5,7 @@ ghost use Rattle.eqc_pair.specs.PairOf.{PairOf};
 ghost use Rattle.eqc_place.specs.Places.{AreProved, IsPartner};
 
 use crate::place::Partner;
-use eqc_graph::{negated, node_of};
+use eqc_graph::{Literal, negated, node_of};
 use eqc_pair::Pair;
 use std::alloc::{AllocError, Global};
 use std::marker::Model;
@@ -23,7 +23,7 @@ pub(crate) fn second_steps(pair: &Pair<'_>) -> (u32, u32)
 }
 
 /// The literal of a step, if it has one.
-pub(crate) fn literal_at(literals: &[Option<u32>], step: u32) -> Option<u32>
+pub(crate) fn literal_at(literals: &[Option<Literal>], step: u32) -> Option<Literal>
     ensures { result ≡ reference_of literals.now step }
 {
     literals.get(step as usize).copied().flatten()
@@ -31,7 +31,7 @@ pub(crate) fn literal_at(literals: &[Option<u32>], step: u32) -> Option<u32>
 
 #[tactic(auto, using(crate::proofs::PlaceLaws::equal_partner, crate::proofs::PlaceLaws::opposite_partner))]
 /// Another step as a partner of one, where their literals are equal or opposite.
-fn as_partner(literals: &[Option<u32>], step: u32, other: u32) -> Option<Partner>
+fn as_partner(literals: &[Option<Literal>], step: u32, other: u32) -> Option<Partner>
     ensures { (p : PairOf) → AreProved p literals.now → IfSome result (IsPartner p step) }
 {
     let x = literal_at(literals, step)?;
@@ -63,7 +63,7 @@ fn note_first(firsts: &mut Vec<u32>, node: u32, step: u32) {
 /// literal it has. Contracts see the literals, and nothing is believed of the rest.
 #[derive(Drop)]
 pub(crate) struct Partners {
-    literals: Vec<Option<u32>>,
+    literals: Vec<Option<Literal>>,
     /// Where the second netlist's steps begin, and where they end.
     pub(crate) second: u32,
     pub(crate) end: u32,
@@ -83,7 +83,7 @@ impl Partners {
     /// Those of steps with these literals. Fails where memory is refused.
     pub(crate) fn of(
         alloc: Global,
-        literals: Vec<Option<u32>>,
+        literals: Vec<Option<Literal>>,
         nodes: u32,
         second: u32,
         end: u32,
@@ -112,7 +112,7 @@ impl Partners {
     }
 
     /// The literals.
-    pub(crate) fn literals(&self) -> &[Option<u32>]
+    pub(crate) fn literals(&self) -> &[Option<Literal>]
         ensures { result.now ≡ self.now }
     {
         &self.literals

@@ -4,6 +4,7 @@ use crate::ends::{End, prefixed};
 use crate::netlist::{FALSE, Netlist};
 use crate::partial::Partial;
 use crate::rows::Row;
+use eqc_graph::Literal;
 use std::alloc::{AllocError, Global};
 
 /// The literals of each column, the next one first.
@@ -105,7 +106,7 @@ impl Columns {
     }
 
     /// Puts a literal behind those of a column, but for one that is always false.
-    pub(crate) fn put(&mut self, column: usize, literal: u32) -> Result<(), AllocError> {
+    pub(crate) fn put(&mut self, column: usize, literal: Literal) -> Result<(), AllocError> {
         if literal != FALSE {
             if let Some(literals) = self.columns.get_mut(column) {
                 literals.push(literal)?;
@@ -144,7 +145,7 @@ impl Columns {
     }
 
     /// The word of columns of up to three, by a chain of adders.
-    fn chain(&mut self, netlist: &mut Netlist) -> Result<Vec<u32>, AllocError> {
+    fn chain(&mut self, netlist: &mut Netlist) -> Result<Vec<Literal>, AllocError> {
         let mut word = Vec::with_capacity(self.alloc, self.len())?;
         for column in 0..self.len() {
             let height = self.height(column);

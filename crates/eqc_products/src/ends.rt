@@ -1,6 +1,7 @@
 //! How a word comes of columns of two: by a chain of adders, or by a tree of prefixes.
 
 use crate::netlist::{FALSE, Netlist};
+use eqc_graph::Literal;
 use std::alloc::{AllocError, Global};
 
 /// How carries come to the columns of a word.
@@ -26,8 +27,8 @@ const LEVELS: u32 = 7;
 /// The columns' spans: whether one makes a carry, whether it passes one on, and its lowest column.
 #[derive(Clone, Copy)]
 struct Span {
-    makes: u32,
-    passes: u32,
+    makes: Literal,
+    passes: Literal,
     lowest: usize,
 }
 
@@ -139,7 +140,7 @@ pub(crate) fn prefixed(
     alloc: Global,
     netlist: &mut Netlist,
     columns: &[(u32, u32)],
-    carry: u32,
+    carry: Literal,
     end: End,
 ) -> Result<Vec<u32>, AllocError> {
     let mut spans = Spans {

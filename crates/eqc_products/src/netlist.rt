@@ -1,7 +1,7 @@
 //! Graphs with adders, of gates that aren't constant.
 ghost use Rattle.std.specs.Prelude.{◌≡◌, ◌/◌, ◌<◌, true, length};
 
-use eqc_graph::{Graph, Node, negated, node_of};
+use eqc_graph::{Graph, Literal, Node, negated, node_of};
 use std::alloc::{AllocError, Global};
 
 /// The literals that are always false and always true.
@@ -39,22 +39,22 @@ impl Netlist {
     }
 
     /// The sums of all adders that were made.
-    pub(crate) fn sums(&self) -> &[u32] {
+    pub(crate) fn sums(&self) -> &[Literal] {
         &self.sums
     }
 
     /// What all adders that were made add up, their sums and their carries.
-    pub(crate) fn ends(&self) -> &[u32] {
+    pub(crate) fn ends(&self) -> &[Literal] {
         &self.ends
     }
 
     /// Whether spans make carries and pass them on, where these aren't carries themselves.
-    pub(crate) fn spans(&self) -> &[u32] {
+    pub(crate) fn spans(&self) -> &[Literal] {
         &self.spans
     }
 
     /// Notes a literal of a span, but for one that is always false. Fails where memory is refused.
-    pub(crate) fn note_span(&mut self, literal: u32) -> Result<(), AllocError> {
+    pub(crate) fn note_span(&mut self, literal: Literal) -> Result<(), AllocError> {
         if literal != FALSE {
             self.spans.push(literal)?;
         }
@@ -62,19 +62,19 @@ impl Netlist {
     }
 
     /// Whether a literal's node is there.
-    fn has(&self, literal: u32) -> bool
+    fn has(&self, literal: Literal) -> bool
         ensures { result ≡ true → literal / 2 < length self.now.graph }
     {
         node_of(literal) < self.graph.len()
     }
 
     /// The literal of an input. Fails where memory is refused.
-    pub(crate) fn input(&mut self, variable: u32) -> Result<u32, AllocError> {
+    pub(crate) fn input(&mut self, variable: u32) -> Result<Literal, AllocError> {
         self.graph.push(Node::Input(variable))
     }
 
     /// The conjunction of two literals. Fails where memory is refused, as all that follows does.
-    pub(crate) fn and(&mut self, x: u32, y: u32) -> Result<u32, AllocError> {
+    pub(crate) fn and(&mut self, x: Literal, y: Literal) -> Result<Literal, AllocError> {
         if x == FALSE || y == FALSE || x == negated(y) || !self.has(x) || !self.has(y) {
             return Ok(FALSE);
         }
@@ -88,7 +88,7 @@ impl Netlist {
     }
 
     /// Whether just one of two literals is true.
-    pub(crate) fn xor(&mut self, x: u32, y: u32) -> Result<u32, AllocError> {
+    pub(crate) fn xor(&mut self, x: Literal, y: Literal) -> Result<Literal, AllocError> {
         if x == FALSE || !self.has(x) {
             return Ok(y);
         }
@@ -111,13 +111,18 @@ impl Netlist {
     }
 
     /// Whether one of two literals is true.
-    pub(crate) fn or(&mut self, x: u32, y: u32) -> Result<u32, AllocError> {
+    pub(crate) fn or(&mut self, x: Literal, y: Literal) -> Result<Literal, AllocError> {
         let neither = self.and(negated(x), negated(y))?;
         Ok(negated(neither))
     }
 
     /// The sum and the carry of three literals.
-    pub(crate) fn add(&mut self, x: u32, y: u32, z: u32) -> Result<(u32, u32), AllocError> {
+    pub(crate) fn add(
+        &mut self,
+        x: Literal,
+        y: Literal,
+        z: Literal,
+    ) -> Result<(Literal, Literal), AllocError> {
         let one = self.xor(x, y)?;
         let sum = self.xor(one, z)?;
         let both = self.and(x, y)?;

@@ -3,7 +3,7 @@
 use crate::factors::{Factor, Product, column_of, is_taken_away};
 use crate::netlist::{FALSE, Netlist, TRUE};
 use crate::rows::{Kind, Order, Row};
-use eqc_graph::{negated, negated_if};
+use eqc_graph::{Literal, negated, negated_if};
 use std::alloc::{AllocError, Global};
 
 /// How the factor of a product is taken that makes its rows.
@@ -21,12 +21,12 @@ pub(crate) enum Digits {
 /// The literals of a factor, the lowest first.
 #[derive(Drop)]
 struct Word {
-    literals: Vec<u32>,
+    literals: Vec<Literal>,
     is_signed: bool,
 }
 
 impl Word {
-    fn of(alloc: Global, inputs: &[u32], factor: &Factor) -> Result<Word, AllocError> {
+    fn of(alloc: Global, inputs: &[Literal], factor: &Factor) -> Result<Word, AllocError> {
         let mut literals = Vec::with_capacity(alloc, factor.places.len())?;
         for place in &factor.places {
             literals.push(inputs.get(*place).copied().unwrap_or(FALSE))?;
@@ -42,7 +42,7 @@ impl Word {
     }
 
     /// A bit, of which those beyond the last one are the sign.
-    fn bit(&self, k: usize) -> u32 {
+    fn bit(&self, k: usize) -> Literal {
         let beyond = if self.is_signed {
             self.literals.last().copied().unwrap_or(FALSE)
         } else {
@@ -71,7 +71,7 @@ impl Factors {
     /// memory is refused.
     fn of(
         alloc: Global,
-        inputs: &[u32],
+        inputs: &[Literal],
         product: &Product,
         is_swapped: bool,
     ) -> Result<Factors, AllocError> {
@@ -113,13 +113,18 @@ impl Factors {
 #[derive(Clone, Copy)]
 struct Digit {
     one: u32,
-    two: u32,
-    negative: u32,
+    two: Literal,
+    negative: Literal,
 }
 
 impl Digit {
     /// The digit of three bits of a factor. Fails where memory is refused.
-    fn of(netlist: &mut Netlist, low: u32, middle: u32, high: u32) -> Result<Digit, AllocError> {
+    fn of(
+        netlist: &mut Netlist,
+        low: Literal,
+        middle: Literal,
+        high: Literal,
+    ) -> Result<Digit, AllocError> {
         let one = netlist.xor(low, middle)?;
         let both = netlist.and(low, middle)?;
         let neither = netlist.and(negated(low), negated(middle))?;
@@ -186,7 +191,7 @@ impl Partial {
     }
 
     /// A literal as it counts in a column: one that is taken away is its complement, less one.
-    fn counted(&mut self, column: usize, literal: u32, is_less: bool) -> u32 {
+    fn counted(&mut self, column: usize, literal: Literal, is_less: bool) -> u32 {
         if is_less && column < 128 {
             self.number = self.number.wrapping_sub(1u128 << column);
         }
@@ -224,7 +229,7 @@ impl Partial {
     fn put_sign(
         &mut self,
         column: usize,
-        literal: u32,
+        literal: Literal,
         is_negative: bool,
     ) -> Result<(), AllocError> {
         let mut row = self.row()?;
@@ -319,7 +324,7 @@ impl Partial {
     pub(crate) fn put_product(
         &mut self,
         netlist: &mut Netlist,
-        inputs: &[u32],
+        inputs: &[Literal],
         product: &Product,
         digits: Digits,
         is_swapped: bool,
@@ -335,7 +340,12 @@ impl Partial {
     }
 
     /// Puts a literal into the first of the rows from this one on in whose column there is none.
-    fn put_single(&mut self, from: usize, column: usize, literal: u32) -> Result<(), AllocError> {
+    fn put_single(
+        &mut self,
+        from: usize,
+        column: usize,
+        literal: Literal,
+    ) -> Result<(), AllocError> {
         for k in from..self.rows.len() {
             if self.rows[k].at(column) == FALSE {
                 self.rows[k].put(column, literal);
@@ -351,7 +361,7 @@ impl Partial {
     /// Puts the inputs that count by themselves so often, in rows of their own.
     pub(crate) fn put_singles(
         &mut self,
-        inputs: &[u32],
+        inputs: &[Literal],
         singles: &[u128],
         digits: Digits,
     ) -> Result<(), AllocError> {
@@ -362,7 +372,11 @@ impl Partial {
     }
 
     /// Puts them where the complement counts of what is taken away.
-    fn put_counted_singles(&mut self, inputs: &[u32], singles: &[u128]) -> Result<(), AllocError> {
+    fn put_counted_singles(
+        &mut self,
+        inputs: &[Literal],
+        singles: &[u128],
+    ) -> Result<(), AllocError> {
         let from = self.rows.len();
         for place in 0..singles.len().min(inputs.len()) {
             let times = singles[place];
@@ -383,7 +397,11 @@ impl Partial {
     }
 
     /// Puts them where those that are taken away are in whole rows.
-    fn put_whole_singles(&mut self, inputs: &[u32], singles: &[u128]) -> Result<(), AllocError> {
+    fn put_whole_singles(
+        &mut self,
+        inputs: &[Literal],
+        singles: &[u128],
+    ) -> Result<(), AllocError> {
         let mut counted = singles.to_vec(self.alloc)?;
         let mut others = Partial::new(self.alloc, self.bits);
         let is_some_taken_away = singles.iter().any(|times| is_taken_away(*times, self.bits));
@@ -413,7 +431,7 @@ impl Partial {
     }
 
     /// The literal that the number has in a column.
-    pub(crate) fn digit(&self, column: usize) -> u32 {
+    pub(crate) fn digit(&self, column: usize) -> Literal {
         if column < 128 && self.number >> column & 1 == 1 {
             TRUE
         } else {

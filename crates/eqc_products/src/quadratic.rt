@@ -1,7 +1,7 @@
 //! A word as a polynomial of degree two in its inputs.
 
 use crate::simulation::{ASSIGNMENTS, Values, random_patterns, variables_of};
-use eqc_graph::Graph;
+use eqc_graph::{Graph, Literal};
 use eqc_sweep::Random;
 use std::alloc::{AllocError, Global};
 
@@ -77,7 +77,7 @@ fn set(patterns: &mut Vec<u128>, place: usize, assignment: usize) {
 fn numbers_at(
     alloc: Global,
     graph: &Graph,
-    word: &[u32],
+    word: &[Literal],
     variables: &[u32],
     places: &[Places],
 ) -> Result<Vec<u128>, AllocError> {
@@ -172,7 +172,7 @@ fn corners(alloc: Global, random: &mut Random, count: usize) -> Result<Vec<u128>
 fn may_be_quadratic(
     alloc: Global,
     graph: &Graph,
-    word: &[u32],
+    word: &[Literal],
     variables: &[u32],
 ) -> Result<bool, AllocError> {
     let patterns = corners(alloc, &mut Random::numbered(3), variables.len())?;
@@ -200,7 +200,7 @@ impl Quadratic {
     pub(crate) fn of(
         alloc: Global,
         graph: &Graph,
-        word: &[u32],
+        word: &[Literal],
     ) -> Result<Option<Quadratic>, AllocError> {
         let variables = variables_of(alloc, graph, word)?;
         let count = variables.len();
@@ -246,7 +246,7 @@ impl Quadratic {
         &self,
         alloc: Global,
         graph: &Graph,
-        word: &[u32],
+        word: &[Literal],
     ) -> Result<bool, AllocError> {
         let mut random = Random::numbered(1);
         for _ in 0..ROUNDS {

@@ -8,7 +8,7 @@ use crate::partial::{Digits, Partial};
 use crate::quadratic::Quadratic;
 use crate::rows::Order;
 use crate::simulation::{ASSIGNMENTS, Values, random_patterns};
-use eqc_graph::{Graph, negated_if};
+use eqc_graph::{Graph, Literal, negated_if};
 use eqc_sweep::{Random, below};
 use std::alloc::{AllocError, Global};
 
@@ -64,7 +64,7 @@ const ARRAY: Architecture = Architecture {
 #[derive(Drop)]
 pub struct Made {
     pub graph: Graph,
-    pub word: Vec<u32>,
+    pub word: Vec<Literal>,
 }
 
 /// A netlist made anew for a word.
@@ -124,7 +124,7 @@ impl Seen {
     fn of(
         alloc: Global,
         graph: &Graph,
-        word: &[u32],
+        word: &[Literal],
         variables: &[u32],
     ) -> Result<Seen, AllocError> {
         let mut random = Random::numbered(2);
@@ -147,7 +147,7 @@ impl Seen {
 
     /// How many of a thousand literals of a netlist are among them, of those that aren't constant
     /// under all assignments: these tell nothing.
-    fn share(&self, values: &Values, literals: &[u32]) -> u32 {
+    fn share(&self, values: &Values, literals: &[Literal]) -> u32 {
         let mut found = 0u64;
         let mut all = 0u64;
         for literal in literals {
@@ -166,7 +166,7 @@ impl Seen {
         &self,
         alloc: Global,
         values: &Values,
-        literals: &[u32],
+        literals: &[Literal],
     ) -> Result<Vec<u32>, AllocError> {
         let mut telling = Vec::new(alloc);
         for literal in literals {
@@ -408,8 +408,8 @@ impl<'a> Task<'a> {
 fn sum_of(
     alloc: Global,
     graph: &Graph,
-    first: &[u32],
-    second: &[u32],
+    first: &[Literal],
+    second: &[Literal],
 ) -> Result<Option<(Quadratic, Summands)>, AllocError> {
     let Some(quadratic) = Quadratic::of(alloc, graph, first)? else {
         return Ok(None);
@@ -426,7 +426,11 @@ fn sum_of(
 
 /// Whether a word of a graph, the lowest literal first, looks like a sum of products of two inputs.
 /// Nothing is promised of it. Fails where memory is refused.
-pub fn is_sum_of_products(alloc: Global, graph: &Graph, word: &[u32]) -> Result<bool, AllocError> {
+pub fn is_sum_of_products(
+    alloc: Global,
+    graph: &Graph,
+    word: &[Literal],
+) -> Result<bool, AllocError> {
     let Some(quadratic) = Quadratic::of(alloc, graph, word)? else {
         return Ok(false);
     };
@@ -439,8 +443,8 @@ pub fn is_sum_of_products(alloc: Global, graph: &Graph, word: &[u32]) -> Result<
 pub fn make_references(
     alloc: Global,
     graph: &Graph,
-    first: &[u32],
-    second: &[u32],
+    first: &[Literal],
+    second: &[Literal],
 ) -> Result<Option<References>, AllocError> {
     let Some((quadratic, summands)) = sum_of(alloc, graph, first, second)? else {
         return Ok(None);
@@ -470,8 +474,8 @@ pub fn make_references(
 pub fn make_array(
     alloc: Global,
     graph: &Graph,
-    first: &[u32],
-    second: &[u32],
+    first: &[Literal],
+    second: &[Literal],
 ) -> Result<Option<Made>, AllocError> {
     let Some((quadratic, summands)) = sum_of(alloc, graph, first, second)? else {
         return Ok(None);

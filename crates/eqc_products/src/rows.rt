@@ -1,7 +1,7 @@
 //! Rows of literals, one of which may count in each column, and their order.
 
 use crate::netlist::FALSE;
-use eqc_graph::negated;
+use eqc_graph::{Literal, negated};
 use std::alloc::{AllocError, Global};
 
 /// In which order rows are added up.
@@ -40,7 +40,7 @@ pub(crate) struct Row {
     /// Which product or word it is of, and which row of that.
     pub(crate) part: usize,
     pub(crate) place: usize,
-    pub(crate) literals: Vec<Option<u32>>,
+    pub(crate) literals: Vec<Option<Literal>>,
 }
 
 impl Row {
@@ -78,7 +78,7 @@ impl Row {
     }
 
     /// Puts a literal into a column, if there is one so high.
-    pub(crate) fn put(&mut self, column: usize, literal: u32) {
+    pub(crate) fn put(&mut self, column: usize, literal: Literal) {
         if let Some(entry) = self.literals.get_mut(column) {
             *entry = Some(literal);
         }

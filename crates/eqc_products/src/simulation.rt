@@ -1,6 +1,6 @@
 //! The values of a graph's nodes for 128 assignments at a time.
 
-use eqc_graph::{Graph, Node, is_negated, node_of};
+use eqc_graph::{Graph, Literal, Node, is_negated, node_of};
 use eqc_sweep::{Random, below};
 use std::alloc::{AllocError, Global};
 
@@ -41,7 +41,7 @@ impl Values {
     }
 
     /// The values of a literal.
-    pub(crate) fn at(&self, literal: u32) -> u128 {
+    pub(crate) fn at(&self, literal: Literal) -> u128 {
         let value = self
             .nodes
             .get(node_of(literal) as usize)
@@ -51,7 +51,7 @@ impl Values {
     }
 
     /// The number that a word stands for under an assignment, the lowest literal first.
-    pub(crate) fn number(&self, word: &[u32], assignment: usize) -> u128 {
+    pub(crate) fn number(&self, word: &[Literal], assignment: usize) -> u128 {
         let mut number = 0u128;
         for literal in word.iter().rev() {
             let bit = self.at(*literal) >> (assignment % ASSIGNMENTS) & 1;
@@ -66,7 +66,7 @@ impl Values {
 pub(crate) fn variables_of(
     alloc: Global,
     graph: &Graph,
-    literals: &[u32],
+    literals: &[Literal],
 ) -> Result<Vec<u32>, AllocError> {
     let marks = below(alloc, graph, literals)?;
     let mut variables = Vec::new(alloc);

@@ -5,7 +5,7 @@ use crate::learned::Learned;
 use crate::reads::{NONE, lengthen, literal_of, node_at, number, read, write};
 use crate::values::{Reason, Value, Values};
 use eqc_clause::Hint;
-use eqc_graph::{Graph, Node, negated_if, node_of};
+use eqc_graph::{Graph, Literal, Node, negated_if, node_of};
 use std::alloc::{AllocError, Global};
 
 /// What is known of a conflict.
@@ -19,7 +19,7 @@ pub(crate) struct Analysis {
     /// How many of them are of the last level and not resolved.
     open: u32,
     /// The clause that is learned, its first literal the one that becomes true.
-    pub(crate) clause: Vec<u32>,
+    pub(crate) clause: Vec<Literal>,
     /// Why the resolved ones are true, the latest first.
     resolved: Vec<Reason>,
     /// The places of those that were left out since others of the clause imply them.
@@ -152,7 +152,7 @@ fn side_of(graph: &Graph, node: u32, side: u32) -> [u32; 3] {
 
 impl Engine {
     /// Takes a literal of a clause that is false into the conflict.
-    fn take(&mut self, literal: u32) -> Result<(), AllocError> {
+    fn take(&mut self, literal: Literal) -> Result<(), AllocError> {
         let node = node_of(literal);
         if node == 0 || literal == NONE || self.analysis.has_seen(node) {
             return Ok(());
@@ -243,7 +243,7 @@ impl Engine {
     }
 
     /// Whether a literal is of this node, of the constant, or in the conflict.
-    fn is_taken(&self, node: u32, literal: u32) -> bool {
+    fn is_taken(&self, node: u32, literal: Literal) -> bool {
         let other = node_of(literal);
         other == node || other == 0 || literal == NONE || self.analysis.has_seen(other)
     }

@@ -4,11 +4,11 @@ ghost use Rattle.eqc_graph.specs.declared.node.Node.{Node};
 ghost use Rattle.eqc_clause.specs.Clauses.{IsRefuted};
 ghost use Rattle.eqc_search.specs.Contradiction.{IsAmong};
 
-use eqc_graph::{Graph, negated};
+use eqc_graph::{Graph, Literal, negated};
 
 #[tactic(auto, using(crate::proofs::ContradictionLemmas::among_at))]
 /// Whether a literal is among some.
-fn is_among(l: u32, literals: &[u32]) -> bool
+fn is_among(l: Literal, literals: &[Literal]) -> bool
     ensures { IsTrue result → IsAmong l literals.now }
 {
     for other in literals {
@@ -21,7 +21,7 @@ fn is_among(l: u32, literals: &[u32]) -> bool
 
 #[tactic(auto, using(crate::proofs::ContradictionLemmas::constant_refutes))]
 /// Whether the constant that is false is assumed.
-fn assumes_false(graph: &Graph, assumptions: &[u32]) -> bool
+fn assumes_false(graph: &Graph, assumptions: &[Literal]) -> bool
     ensures { IsTrue result → IsRefuted graph.now assumptions.now }
 {
     // What is known of a graph is known of its first node, the constant.
@@ -32,14 +32,14 @@ fn assumes_false(graph: &Graph, assumptions: &[u32]) -> bool
 
 #[tactic(auto, using(crate::proofs::ContradictionLemmas::both_refute))]
 /// Whether a literal and its complement are assumed.
-fn assumes_both(assumptions: &[u32], l: u32) -> bool
+fn assumes_both(assumptions: &[Literal], l: Literal) -> bool
     ensures { IsTrue result → (nodes : List Node) → IsRefuted nodes assumptions.now }
 {
     is_among(l, assumptions) && is_among(negated(l), assumptions)
 }
 
 /// Whether assumptions, of which `l` is one, are seen to contradict one another.
-pub(crate) fn contradict(graph: &Graph, assumptions: &[u32], l: u32) -> bool
+pub(crate) fn contradict(graph: &Graph, assumptions: &[Literal], l: Literal) -> bool
     ensures { IsTrue result → IsRefuted graph.now assumptions.now }
 {
     assumes_false(graph, assumptions) || assumes_both(assumptions, l)

@@ -7,7 +7,7 @@ use crate::restarts::Restarts;
 use crate::search::{Budget, Decides};
 use crate::values::{Reason, Value, Values};
 use crate::window::Window;
-use eqc_graph::{Graph, Node, node_of};
+use eqc_graph::{Graph, Literal, Node, node_of};
 use std::alloc::{AllocError, Global};
 
 /// So many gates are in the first window. To lay out a window takes as long as most refutations, so
@@ -119,7 +119,7 @@ impl Engine {
     pub(crate) fn begin(
         &mut self,
         graph: &Graph,
-        assumptions: &[u32],
+        assumptions: &[Literal],
         budget: &Budget,
     ) -> Result<Option<u32>, AllocError> {
         self.grow(graph)?;

@@ -1,6 +1,7 @@
 //! The learned clauses, as the search reads them, and the two literals of each that are watched.
 use crate::reads::{NONE, lengthen, number, read, write};
 use crate::values::{Reason, Value, Values};
+use eqc_graph::Literal;
 use std::alloc::{AllocError, Global};
 
 /// A clause with at most so many levels stays.
@@ -29,7 +30,7 @@ const NO_CLAUSE: Clause = Clause {
 #[derive(Clone, Copy)]
 pub(crate) struct Watch {
     /// A literal of the clause: nothing is to do while it is true.
-    pub(crate) blocker: u32,
+    pub(crate) blocker: Literal,
     /// The next watch of the same literal.
     pub(crate) next: u32,
 }
@@ -50,7 +51,7 @@ struct Rank {
 /// Clauses by their places. Each stands in the store too, which alone is believed.
 #[derive(Drop)]
 pub(crate) struct Learned {
-    literals: Vec<u32>,
+    literals: Vec<Literal>,
     clauses: Vec<Clause>,
     watches: Vec<Watch>,
     /// By literal: its first watch.
@@ -102,13 +103,13 @@ impl Learned {
     }
 
     /// The literal of a clause that has no other.
-    pub(crate) fn unit(&self, place: u32) -> Option<u32> {
+    pub(crate) fn unit(&self, place: u32) -> Option<Literal> {
         let (begin, end) = self.bounds(place);
         (end.saturating_sub(begin) == 1).then_some(self.literal(begin))
     }
 
     #[inline(always)]
-    pub(crate) fn literal(&self, at: u32) -> u32 {
+    pub(crate) fn literal(&self, at: u32) -> Literal {
         read(&self.literals, at, 0)
     }
 
@@ -122,7 +123,7 @@ impl Learned {
     }
 
     #[inline(always)]
-    pub(crate) fn first_watch(&self, literal: u32) -> u32 {
+    pub(crate) fn first_watch(&self, literal: Literal) -> u32 {
         read(&self.heads, literal, NONE)
     }
 
@@ -133,14 +134,14 @@ impl Learned {
 
     /// Gives a watch another blocker.
     #[inline(always)]
-    pub(crate) fn set_blocker(&mut self, at: u32, blocker: u32) {
+    pub(crate) fn set_blocker(&mut self, at: u32, blocker: Literal) {
         let next = self.watch(at).next;
         write(&mut self.watches, at, Watch { blocker, next });
     }
 
     /// Takes a watch out of the row of its literal, in which it follows `previous`.
     #[inline(always)]
-    pub(crate) fn unlink(&mut self, literal: u32, previous: u32, at: u32) {
+    pub(crate) fn unlink(&mut self, literal: Literal, previous: u32, at: u32) {
         let next = self.watch(at).next;
         if previous == NONE {
             write(&mut self.heads, literal, next);
@@ -152,7 +153,7 @@ impl Learned {
 
     /// Puts a watch into the row of a literal.
     #[inline(always)]
-    pub(crate) fn link(&mut self, literal: u32, at: u32, blocker: u32) {
+    pub(crate) fn link(&mut self, literal: Literal, at: u32, blocker: Literal) {
         let next = self.first_watch(literal);
         write(&mut self.watches, at, Watch { blocker, next });
         write(&mut self.heads, literal, at);
@@ -175,7 +176,7 @@ impl Learned {
     /// place.
     pub(crate) fn add(
         &mut self,
-        clause: &[u32],
+        clause: &[Literal],
         glue: u32,
         in_store: u32,
     ) -> Result<u32, AllocError> {

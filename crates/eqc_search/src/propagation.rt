@@ -4,13 +4,13 @@ use crate::engine::Engine;
 use crate::reads::{NONE, literal_of, node_at};
 use crate::values::{Reason, Value};
 use crate::window::Fanout;
-use eqc_graph::{Graph, Node, negated_if, node_of};
+use eqc_graph::{Graph, Literal, Node, negated_if, node_of};
 
 /// What becomes of a clause, one of whose watched literals is false.
 enum Watched {
     Kept,
     /// Another literal is watched instead.
-    Moved { to: u32, blocker: u32 },
+    Moved { to: u32, blocker: Literal },
     Conflict,
 }
 
@@ -52,7 +52,7 @@ impl Engine {
     }
 
     /// Makes true what follows from one literal.
-    fn propagate_literal(&mut self, graph: &Graph, literal: u32) -> Option<Reason> {
+    fn propagate_literal(&mut self, graph: &Graph, literal: Literal) -> Option<Reason> {
         let node = node_of(literal);
         if self.window.is_gate(node) {
             let conflict = self.visit_gate(graph, node, literal);
@@ -69,7 +69,7 @@ impl Engine {
 
     /// Makes a literal true for this reason. Gives the reason if the literal is false.
     #[inline(always)]
-    fn imply(&mut self, literal: u32, reason: Reason) -> Option<Reason> {
+    fn imply(&mut self, literal: Literal, reason: Reason) -> Option<Reason> {
         match self.values.value(literal) {
             Value::True => None,
             Value::False => Some(reason),
@@ -82,7 +82,7 @@ impl Engine {
 
     /// Lets the operands of a gate that has got a value be decided, and makes true what follows for
     /// them.
-    fn visit_gate(&mut self, graph: &Graph, node: u32, literal: u32) -> Option<Reason> {
+    fn visit_gate(&mut self, graph: &Graph, node: u32, literal: Literal) -> Option<Reason> {
         self.visit();
         match node_at(graph, node) {
             Node::And(a, b) => {
@@ -131,7 +131,7 @@ impl Engine {
 
     /// Lets the node of a literal be decided if it is free.
     #[inline(always)]
-    fn offer(&mut self, literal: u32) {
+    fn offer(&mut self, literal: Literal) {
         if self.values.value(literal) == Value::Free {
             self.decisions.insert(node_of(literal), &self.window);
         }
@@ -208,7 +208,7 @@ impl Engine {
 
     /// Makes true what follows for the gates of which a node is an operand, now that a literal of
     /// it is true.
-    fn visit_fanouts(&mut self, node: u32, literal: u32) -> Option<Reason> {
+    fn visit_fanouts(&mut self, node: u32, literal: Literal) -> Option<Reason> {
         let mut at = self.window.first_fanout(node);
         for _ in 0..self.window.fanouts() {
             if at == NONE {
@@ -239,7 +239,7 @@ impl Engine {
 
     /// Makes true what follows for an and, of whose operand a literal is true.
     #[inline(always)]
-    fn visit_and_of(&mut self, fanout: Fanout, literal: u32) -> Option<Reason> {
+    fn visit_and_of(&mut self, fanout: Fanout, literal: Literal) -> Option<Reason> {
         let node = fanout.gate();
         let gate = literal_of(node, true);
         if fanout.own != literal {
@@ -258,7 +258,7 @@ impl Engine {
     }
 
     /// Makes true what follows for the learned clauses that watch a literal, which is false now.
-    fn visit_watches(&mut self, falsified: u32) -> Option<Reason> {
+    fn visit_watches(&mut self, falsified: Literal) -> Option<Reason> {
         let mut previous = NONE;
         let mut at = self.learned.first_watch(falsified);
         for _ in 0..self.learned.watches() {

@@ -1,5 +1,5 @@
 //! Places of rows that may not be there.
-use eqc_graph::{Graph, Node};
+use eqc_graph::{Graph, Literal, Node};
 use std::alloc::AllocError;
 
 /// No node, literal, clause or place.
@@ -33,7 +33,7 @@ pub(crate) fn lengthen<T: Copy>(row: &mut Vec<T>, len: u32, value: T) -> Result<
 }
 
 /// The literal that is true where the node has the value.
-pub(crate) fn literal_of(node: u32, value: bool) -> u32 {
+pub(crate) fn literal_of(node: u32, value: bool) -> Literal {
     let literal = node.wrapping_mul(2);
     if value { literal } else { literal ^ 1 }
 }

@@ -7,7 +7,7 @@ use crate::contradiction::contradict;
 use crate::engine::Engine;
 use crate::values::Reason;
 use eqc_clause::{Clauses, Marks};
-use eqc_graph::Graph;
+use eqc_graph::{Graph, Literal};
 use std::alloc::{AllocError, Global};
 use std::marker::Model;
 
@@ -131,7 +131,7 @@ impl Search {
     pub fn ask(
         &mut self,
         graph: &Graph,
-        assumptions: &[u32],
+        assumptions: &[Literal],
         budget: &mut Budget,
     ) -> Result<Answer, AllocError>
         ensures answer { IfOk result (λ answer. answer ≡ Answer.Refuted → IsRefuted graph.now assumptions.now) }
@@ -147,7 +147,7 @@ impl Search {
     pub fn ask_again(
         &mut self,
         graph: &Graph,
-        assumptions: &[u32],
+        assumptions: &[Literal],
         budget: &mut Budget,
     ) -> Result<Answer, AllocError>
         requires { IsSound graph.now self.old }
@@ -165,7 +165,7 @@ impl Search {
     fn run(
         &mut self,
         graph: &Graph,
-        assumptions: &[u32],
+        assumptions: &[Literal],
         budget: &mut Budget,
     ) -> Result<Answer, AllocError>
         requires { IsSound graph.now self.old }
@@ -247,7 +247,7 @@ impl Search {
     }
 
     /// Lets the store confirm that the assumptions can't be true together.
-    fn close(&mut self, graph: &Graph, assumptions: &[u32]) -> Result<Answer, AllocError>
+    fn close(&mut self, graph: &Graph, assumptions: &[Literal]) -> Result<Answer, AllocError>
         requires { IsSound graph.now self.old }
         ensures answer { IfOk result (λ answer. answer ≡ Answer.Refuted → IsRefuted graph.now assumptions.now) }
         ensures sound { IsSound graph.now self.new }

@@ -1,5 +1,6 @@
 //! The literals that are true, in the order in which they became true, and why.
 use crate::reads::{lengthen, number, read, write};
+use eqc_graph::Literal;
 use std::alloc::{AllocError, Global};
 
 /// Whether a literal is true.
@@ -43,7 +44,7 @@ pub(crate) struct Values {
     /// By node.
     records: Vec<Record>,
     /// The true literals in their order, in a row with room for each node.
-    trail: Vec<u32>,
+    trail: Vec<Literal>,
     /// How many are true.
     end: u32,
     /// How many of them have been propagated.
@@ -75,7 +76,7 @@ impl Values {
     }
 
     #[inline(always)]
-    pub(crate) fn value(&self, literal: u32) -> Value {
+    pub(crate) fn value(&self, literal: Literal) -> Value {
         read(&self.values, literal, Value::Free)
     }
 
@@ -98,7 +99,7 @@ impl Values {
     }
 
     /// Gives a learned clause that is the reason of a literal another place.
-    pub(crate) fn rename_reason(&mut self, literal: u32, old: u32, new: u32) {
+    pub(crate) fn rename_reason(&mut self, literal: Literal, old: u32, new: u32) {
         let record = read(&self.records, literal / 2, NO_RECORD);
         if let Reason::Learned(place) = record.reason {
             if place == old && self.value(literal) == Value::True {
@@ -121,7 +122,7 @@ impl Values {
 
     /// Makes a free literal true.
     #[inline(always)]
-    pub(crate) fn assign(&mut self, literal: u32, reason: Reason) {
+    pub(crate) fn assign(&mut self, literal: Literal, reason: Reason) {
         let level = self.level();
         let place = self.end;
         write(&mut self.values, literal, Value::True);
@@ -140,7 +141,7 @@ impl Values {
     }
 
     /// Makes a free literal true, without a reason and until it is taken back.
-    pub(crate) fn decide(&mut self, literal: u32) -> Result<(), AllocError> {
+    pub(crate) fn decide(&mut self, literal: Literal) -> Result<(), AllocError> {
         self.starts.push(self.end)?;
         self.assign(literal, Reason::Decided);
         Ok(())

@@ -6,6 +6,7 @@ ghost use Rattle.eqc_graph.specs.Graph.{literal_value, IsGraph};
 ghost use Rattle.eqc_sums.specs.Forms.{bit, terms_sum, form_value};
 
 use crate::term::Term;
+use eqc_graph::Literal;
 use std::alloc::{AllocError, Global};
 
 /// A constant, and a coefficient for each of the first nodes of a graph, modulo 2^128.
@@ -50,7 +51,7 @@ impl Form {
     }
 
     /// Adds a literal of a node that it has a coefficient for, so many times.
-    pub fn add(&mut self, literal: u32, factor: u128)
+    pub fn add(&mut self, literal: Literal, factor: u128)
         requires { literal / 2 < length self.old.coefficients.items }
         ensures length { length self.new.coefficients.items ≡ length self.old.coefficients.items }
         ensures value { (nodes : List Node) (a : ℕ → Bool) → form_value nodes a self.new ≡ (form_value nodes a self.old + factor * bit (literal_value nodes a literal)) % 2 ^ 128 }

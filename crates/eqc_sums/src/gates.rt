@@ -4,13 +4,18 @@ ghost use Rattle.eqc_graph.specs.Graph.{differ, literal_value, IsWithin, Extends
 ghost use Rattle.eqc_sweep.specs.Sweeping.{HasValue};
 ghost use Rattle.eqc_sums.specs.Adding.{majority};
 
-use eqc_graph::negated;
+use eqc_graph::{Literal, negated};
 use eqc_sweep::Sweep;
 use std::alloc::AllocError;
 
 #[tactic(auto, using(crate::proofs::GateLemmas::sum_value, crate::proofs::GateLemmas::extends_both))]
 /// Whether one or three of three literals are true.
-pub(crate) fn sum_of(sweep: &mut Sweep, x: u32, y: u32, z: u32) -> Result<u32, AllocError>
+pub(crate) fn sum_of(
+    sweep: &mut Sweep,
+    x: Literal,
+    y: Literal,
+    z: Literal,
+) -> Result<Literal, AllocError>
     requires x { IsWithin sweep.old x }
     requires y { IsWithin sweep.old y }
     requires z { IsWithin sweep.old z }
@@ -24,7 +29,12 @@ pub(crate) fn sum_of(sweep: &mut Sweep, x: u32, y: u32, z: u32) -> Result<u32, A
 
 #[tactic(auto, using(crate::proofs::GateLemmas::extends_both))]
 /// Whether two or three of three literals are true.
-pub(crate) fn carry_of(sweep: &mut Sweep, x: u32, y: u32, z: u32) -> Result<u32, AllocError>
+pub(crate) fn carry_of(
+    sweep: &mut Sweep,
+    x: Literal,
+    y: Literal,
+    z: Literal,
+) -> Result<Literal, AllocError>
     requires x { IsWithin sweep.old x }
     requires y { IsWithin sweep.old y }
     requires z { IsWithin sweep.old z }

@@ -8,7 +8,7 @@ ghost use Rattle.eqc_sums.specs.Adding.{gate_number, IsGateOf};
 
 use crate::steps::times;
 use crate::term::Term;
-use eqc_graph::{Graph, Node, is_negated};
+use eqc_graph::{Graph, Literal, Node, is_negated};
 use eqc_sweep::Sweep;
 use std::alloc::{AllocError, Global};
 
@@ -133,7 +133,7 @@ fn merged(alloc: Global, terms: Vec<Term>) -> Result<Vec<Term>, AllocError>
 }
 
 /// The literal alone.
-fn alone(alloc: Global, literal: u32) -> Result<Vec<Term>, AllocError>
+fn alone(alloc: Global, literal: Literal) -> Result<Vec<Term>, AllocError>
     ensures { IfOk result (λ ts. (nodes : List Node) → IsWithin nodes literal → HasSum nodes ts.items (λ a. bit (literal_value nodes a literal))) }
 {
     let mut terms = Vec::new(alloc);
@@ -142,7 +142,7 @@ fn alone(alloc: Global, literal: u32) -> Result<Vec<Term>, AllocError>
 }
 
 /// A literal as a polynomial of its node.
-fn of_node(alloc: Global, graph: &Graph, literal: u32) -> Result<Vec<Term>, AllocError>
+fn of_node(alloc: Global, graph: &Graph, literal: Literal) -> Result<Vec<Term>, AllocError>
     requires { IsWithin graph.now literal }
     ensures { IfOk result (λ ts. HasSum graph.now ts.items (λ a. bit (literal_value graph.now a literal))) }
 {
@@ -158,7 +158,7 @@ fn of_node(alloc: Global, graph: &Graph, literal: u32) -> Result<Vec<Term>, Allo
 
 #[tactic(auto, using(crate::proofs::PolynomialLemmas::gate_and, crate::proofs::PolynomialLemmas::gate_xor))]
 /// Whether a gate is a conjunction, and its literals.
-fn gate_of(graph: &Graph, node: u32) -> Option<(bool, u32, u32)>
+fn gate_of(graph: &Graph, node: u32) -> Option<(bool, Literal, Literal)>
     requires { node < length graph.now }
     ensures { IfSome result (λ g. IsGateOf graph.now node g.0 g.1 g.2) }
 {
@@ -173,7 +173,7 @@ fn gate_of(graph: &Graph, node: u32) -> Option<(bool, u32, u32)>
 pub(crate) fn polynomial(
     alloc: Global,
     sweep: &mut Sweep,
-    literal: u32,
+    literal: Literal,
     depth: u32,
 ) -> Result<Vec<Term>, AllocError>
     requires { IsWithin sweep.old literal }
@@ -202,7 +202,7 @@ pub(crate) fn polynomial(
 pub(crate) fn expansion(
     alloc: Global,
     sweep: &mut Sweep,
-    literal: u32,
+    literal: Literal,
     depth: u32,
     factor: u128,
 ) -> Result<Vec<Term>, AllocError>
@@ -224,8 +224,8 @@ pub(crate) fn expansion(
 pub(crate) fn product_expansion(
     alloc: Global,
     sweep: &mut Sweep,
-    by: u32,
-    literal: u32,
+    by: Literal,
+    literal: Literal,
     depth: u32,
     factor: u128,
 ) -> Result<Vec<Term>, AllocError>

@@ -10,7 +10,7 @@ use crate::polynomial::{expansion, product_expansion};
 use crate::steps::{adder, alias, parity, polarity, product, split, split_product};
 use crate::term::Term;
 use crate::words::{MOST_LITERALS, are_within, difference};
-use eqc_graph::node_of;
+use eqc_graph::{Literal, node_of};
 use eqc_sweep::{Comparison, Effort, Sweep};
 use std::alloc::{AllocError, Global};
 
@@ -69,14 +69,14 @@ impl Reduction {
     }
 
     /// Whether a literal is one of the graph.
-    fn has(&self, literal: u32) -> bool
+    fn has(&self, literal: Literal) -> bool
         ensures { IsTrue result → IsWithin self.now.sweep literal }
     {
         node_of(literal) < self.sweep.graph().len()
     }
 
     /// Whether two literals are of the graph.
-    fn has_both(&self, x: u32, y: u32) -> bool
+    fn has_both(&self, x: Literal, y: Literal) -> bool
         ensures x { IsTrue result → IsWithin self.now.sweep x }
         ensures y { IsTrue result → IsWithin self.now.sweep y }
     {
@@ -84,7 +84,7 @@ impl Reduction {
     }
 
     /// Whether three literals are.
-    fn has_three(&self, x: u32, y: u32, z: u32) -> bool
+    fn has_three(&self, x: Literal, y: Literal, z: Literal) -> bool
         ensures x { IsTrue result → IsWithin self.now.sweep x }
         ensures y { IsTrue result → IsWithin self.now.sweep y }
         ensures z { IsTrue result → IsWithin self.now.sweep z }
@@ -115,7 +115,13 @@ impl Reduction {
     #[tactic(auto, using(crate::proofs::KeepLemmas::keeps_extended, crate::proofs::KeepLemmas::keeps_itself, crate::proofs::KeepLemmas::keeps_grown))]
     /// Adds an adder so many times: x + y + z - s - 2 c, where s is the sum of three literals and c
     /// the carry.
-    pub fn adder(&mut self, x: u32, y: u32, z: u32, factor: u128) -> Result<(), AllocError>
+    pub fn adder(
+        &mut self,
+        x: Literal,
+        y: Literal,
+        z: Literal,
+        factor: u128,
+    ) -> Result<(), AllocError>
         ensures { Keeps self.old.sweep self.new.sweep self.old.form self.new.form }
     {
         if !self.has_three(x, y, z) {
@@ -127,7 +133,7 @@ impl Reduction {
 
     #[tactic(auto, using(crate::proofs::KeepLemmas::keeps_extended, crate::proofs::KeepLemmas::keeps_itself, crate::proofs::KeepLemmas::keeps_grown))]
     /// Adds a parity 2^127 times: x + y - (x xor y).
-    pub fn parity(&mut self, x: u32, y: u32) -> Result<(), AllocError>
+    pub fn parity(&mut self, x: Literal, y: Literal) -> Result<(), AllocError>
         ensures { Keeps self.old.sweep self.new.sweep self.old.form self.new.form }
     {
         if !self.has_both(x, y) {
@@ -139,7 +145,7 @@ impl Reduction {
 
     #[tactic(auto, using(crate::proofs::KeepLemmas::keeps_extended, crate::proofs::KeepLemmas::keeps_itself, crate::proofs::KeepLemmas::keeps_grown))]
     /// Adds a literal that is split by another one, so many times: x y + (not x) y - y.
-    pub fn split(&mut self, x: u32, y: u32, factor: u128) -> Result<(), AllocError>
+    pub fn split(&mut self, x: Literal, y: Literal, factor: u128) -> Result<(), AllocError>
         ensures { Keeps self.old.sweep self.new.sweep self.old.form self.new.form }
     {
         if !self.has_both(x, y) {
@@ -151,7 +157,13 @@ impl Reduction {
 
     #[tactic(auto, using(crate::proofs::KeepLemmas::keeps_extended, crate::proofs::KeepLemmas::keeps_itself, crate::proofs::KeepLemmas::keeps_grown))]
     /// Adds the carry of a complement, so many times: y + z - carry(x, y, z) - carry(not x, y, z).
-    pub fn polarity(&mut self, x: u32, y: u32, z: u32, factor: u128) -> Result<(), AllocError>
+    pub fn polarity(
+        &mut self,
+        x: Literal,
+        y: Literal,
+        z: Literal,
+        factor: u128,
+    ) -> Result<(), AllocError>
         ensures { Keeps self.old.sweep self.new.sweep self.old.form self.new.form }
     {
         if !self.has_three(x, y, z) {
@@ -165,10 +177,10 @@ impl Reduction {
     /// Adds an adder times a literal, so many times.
     pub fn product(
         &mut self,
-        by: u32,
-        x: u32,
-        y: u32,
-        z: u32,
+        by: Literal,
+        x: Literal,
+        y: Literal,
+        z: Literal,
         factor: u128,
     ) -> Result<(), AllocError>
         ensures { Keeps self.old.sweep self.new.sweep self.old.form self.new.form }
@@ -183,7 +195,13 @@ impl Reduction {
     #[tactic(auto, using(crate::proofs::KeepLemmas::keeps_extended, crate::proofs::KeepLemmas::keeps_itself, crate::proofs::KeepLemmas::keeps_grown))]
     /// Adds a literal that is split by another one, times a third one and so many times: by x y +
     /// by (not x) y - by y.
-    pub fn split_product(&mut self, by: u32, x: u32, y: u32, factor: u128) -> Result<(), AllocError>
+    pub fn split_product(
+        &mut self,
+        by: Literal,
+        x: Literal,
+        y: Literal,
+        factor: u128,
+    ) -> Result<(), AllocError>
         ensures { Keeps self.old.sweep self.new.sweep self.old.form self.new.form }
     {
         if !self.has_three(by, x, y) {
@@ -196,7 +214,7 @@ impl Reduction {
     #[tactic(auto, using(crate::proofs::KeepLemmas::keeps_extended, crate::proofs::KeepLemmas::keeps_itself, crate::proofs::KeepLemmas::keeps_grown))]
     /// Puts the polynomial of a literal, of literals that are at most so many gates below it, in
     /// place of it, so many times.
-    pub fn expand(&mut self, literal: u32, depth: u32, factor: u128) -> Result<(), AllocError>
+    pub fn expand(&mut self, literal: Literal, depth: u32, factor: u128) -> Result<(), AllocError>
         ensures { Keeps self.old.sweep self.new.sweep self.old.form self.new.form }
     {
         if !self.has(literal) {
@@ -211,8 +229,8 @@ impl Reduction {
     /// times.
     pub fn expand_product(
         &mut self,
-        by: u32,
-        literal: u32,
+        by: Literal,
+        literal: Literal,
         depth: u32,
         factor: u128,
     ) -> Result<(), AllocError>
@@ -230,10 +248,10 @@ impl Reduction {
     /// The form stays as it is.
     pub fn sum_and_carry(
         &mut self,
-        x: u32,
-        y: u32,
-        z: u32,
-    ) -> Result<Option<(u32, u32)>, AllocError>
+        x: Literal,
+        y: Literal,
+        z: Literal,
+    ) -> Result<Option<(Literal, Literal)>, AllocError>
         ensures { Keeps self.old.sweep self.new.sweep self.old.form self.new.form }
     {
         if !self.has_three(x, y, z) {
@@ -254,8 +272,8 @@ impl Reduction {
     /// which those are taken away that there were. Answers what was found.
     pub fn unify(
         &mut self,
-        x: u32,
-        y: u32,
+        x: Literal,
+        y: Literal,
         factor: u128,
         conflicts: &mut u64,
     ) -> Result<Comparison, AllocError>
@@ -274,7 +292,7 @@ impl Reduction {
 
     /// Begins anew with the form that is zero where two words are equal. Answers whether they are
     /// words of the graph, of as many literals, from 1 to 128.
-    pub fn begin(&mut self, ps: &[u32], qs: &[u32]) -> Result<bool, AllocError>
+    pub fn begin(&mut self, ps: &[Literal], qs: &[Literal]) -> Result<bool, AllocError>
         ensures sweep { self.new.sweep ≡ self.old.sweep }
         ensures begun { IfOk result (λ is. IsTrue is → IsFormOf self.new.sweep self.new.form ps.now qs.now) }
     {

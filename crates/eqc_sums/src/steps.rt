@@ -7,7 +7,7 @@ ghost use Rattle.eqc_sums.specs.Forms.{bit, terms_sum, HasSum, IsZeroStep};
 
 use crate::gates::{carry_of, sum_of};
 use crate::term::Term;
-use eqc_graph::negated;
+use eqc_graph::{Literal, negated};
 use eqc_sweep::Sweep;
 use std::alloc::{AllocError, Global};
 
@@ -18,9 +18,9 @@ const HALF: u128 = 1 << 127;
 /// An adder: x + y + z - s - 2 c, where s is the sum and c the carry.
 pub(crate) fn adder(
     sweep: &mut Sweep,
-    x: u32,
-    y: u32,
-    z: u32,
+    x: Literal,
+    y: Literal,
+    z: Literal,
     factor: u128,
 ) -> Result<[Term; 5], AllocError>
     requires x { IsWithin sweep.old x }
@@ -49,7 +49,7 @@ pub(crate) fn adder(
 
 #[tactic(auto, using(crate::proofs::GateLemmas::extends_both, crate::proofs::StepLemmas::parity_is_zero))]
 /// A parity, half of 2^128 times: x + y - (x xor y).
-pub(crate) fn parity(sweep: &mut Sweep, x: u32, y: u32) -> Result<[Term; 3], AllocError>
+pub(crate) fn parity(sweep: &mut Sweep, x: Literal, y: Literal) -> Result<[Term; 3], AllocError>
     requires x { IsWithin sweep.old x }
     requires y { IsWithin sweep.old y }
     ensures extends { Extends sweep.old sweep.new }
@@ -76,8 +76,8 @@ pub(crate) fn parity(sweep: &mut Sweep, x: u32, y: u32) -> Result<[Term; 3], All
 /// A literal, split by another one: x y + (not x) y - y.
 pub(crate) fn split(
     sweep: &mut Sweep,
-    x: u32,
-    y: u32,
+    x: Literal,
+    y: Literal,
     factor: u128,
 ) -> Result<[Term; 3], AllocError>
     requires x { IsWithin sweep.old x }
@@ -107,9 +107,9 @@ pub(crate) fn split(
 /// The carry of a complement: y + z - carry(x, y, z) - carry(not x, y, z).
 pub(crate) fn polarity(
     sweep: &mut Sweep,
-    x: u32,
-    y: u32,
-    z: u32,
+    x: Literal,
+    y: Literal,
+    z: Literal,
     factor: u128,
 ) -> Result<[Term; 4], AllocError>
     requires x { IsWithin sweep.old x }
@@ -137,7 +137,7 @@ pub(crate) fn polarity(
 
 #[tactic(auto, using(crate::proofs::StepLemmas::alias_is_zero))]
 /// One of two literals that are equal, in place of the other: y - x.
-pub(crate) fn alias(sweep: &Sweep, x: u32, y: u32, factor: u128) -> [Term; 2]
+pub(crate) fn alias(sweep: &Sweep, x: Literal, y: Literal, factor: u128) -> [Term; 2]
     requires x { IsWithin sweep.now x }
     requires y { IsWithin sweep.now y }
     requires equal { AreEqual sweep.now x y }
@@ -156,7 +156,7 @@ pub(crate) fn alias(sweep: &Sweep, x: u32, y: u32, factor: u128) -> [Term; 2]
 /// Puts terms times a literal, so many times, behind others.
 pub(crate) fn times(
     sweep: &mut Sweep,
-    by: u32,
+    by: Literal,
     factor: u128,
     terms: &[Term],
     out: &mut Vec<Term>,
@@ -181,8 +181,8 @@ pub(crate) fn times(
 pub(crate) fn product(
     alloc: Global,
     sweep: &mut Sweep,
-    by: u32,
-    three: (u32, u32, u32),
+    by: Literal,
+    three: (Literal, Literal, Literal),
     factor: u128,
 ) -> Result<Vec<Term>, AllocError>
     requires by { IsWithin sweep.old by }
@@ -203,9 +203,9 @@ pub(crate) fn product(
 pub(crate) fn split_product(
     alloc: Global,
     sweep: &mut Sweep,
-    by: u32,
-    x: u32,
-    y: u32,
+    by: Literal,
+    x: Literal,
+    y: Literal,
     factor: u128,
 ) -> Result<Vec<Term>, AllocError>
     requires by { IsWithin sweep.old by }

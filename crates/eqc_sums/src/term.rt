@@ -1,9 +1,10 @@
 //! Terms of linear forms.
+use eqc_graph::Literal;
 
 /// A literal with a factor.
 #[derive(Clone, Copy, PartialEq, Eq, Debug)]
 pub struct Term {
-    pub literal: u32,
+    pub literal: Literal,
     /// Modulo 2^128.
     pub factor: u128,
 }

@@ -7,14 +7,14 @@ ghost use Rattle.eqc_sums.specs.Forms.{terms_sum};
 ghost use Rattle.eqc_sums.specs.Adding.{number};
 
 use crate::term::Term;
-use eqc_graph::{Graph, node_of};
+use eqc_graph::{Graph, Literal, node_of};
 use std::alloc::{AllocError, Global};
 
 /// How many literals a word has at most: what looks for words ends them there.
 pub const MOST_LITERALS: usize = 128;
 
 /// Whether literals are of the nodes of a graph.
-pub(crate) fn are_within(graph: &Graph, literals: &[u32]) -> bool
+pub(crate) fn are_within(graph: &Graph, literals: &[Literal]) -> bool
     ensures { IsTrue result → All (IsWithin graph.now) literals.now }
 {
     for literal in literals {
@@ -27,7 +27,11 @@ pub(crate) fn are_within(graph: &Graph, literals: &[u32]) -> bool
 
 /// The literals of one word, each with the factor of its place, and those of another with the
 /// opposite of that.
-pub(crate) fn difference(alloc: Global, ps: &[u32], qs: &[u32]) -> Result<Vec<Term>, AllocError>
+pub(crate) fn difference(
+    alloc: Global,
+    ps: &[Literal],
+    qs: &[Literal],
+) -> Result<Vec<Term>, AllocError>
     requires some { 0 < length ps.now }
     requires few { length ps.now ≤ 128 }
     requires same { length qs.now ≡ length ps.now }

@@ -9,7 +9,7 @@ pub(crate) mod ready;
 
 use crate::copying::ready::Ready;
 use crate::sweep::Sweep;
-use eqc_graph::{Graph, Node, is_negated, negated_if, node_of};
+use eqc_graph::{Graph, Literal, Node, is_negated, negated_if, node_of};
 use std::alloc::{AllocError, Global};
 use std::thread::Threads;
 
@@ -18,7 +18,7 @@ fn is_marked(marks: &[bool], k: u32) -> bool {
 }
 
 /// Marks the node of a literal, if it has a mark.
-fn mark(marks: &mut Vec<bool>, literal: u32) {
+fn mark(marks: &mut Vec<bool>, literal: Literal) {
     let at = node_of(literal) as usize;
     if at < marks.len() {
         marks[at] = true;
@@ -27,7 +27,7 @@ fn mark(marks: &mut Vec<bool>, literal: u32) {
 
 /// Marks for the nodes of a graph: those of these literals, and what they are made of. Fails where
 /// memory is refused.
-pub fn below(alloc: Global, graph: &Graph, literals: &[u32]) -> Result<Vec<bool>, AllocError> {
+pub fn below(alloc: Global, graph: &Graph, literals: &[Literal]) -> Result<Vec<bool>, AllocError> {
     let mut marks = vec![in alloc; false; graph.len() as usize]?;
     for literal in literals {
         mark(&mut marks, *literal);
@@ -49,7 +49,7 @@ pub fn below(alloc: Global, graph: &Graph, literals: &[u32]) -> Result<Vec<bool>
 }
 
 /// The literal of a node in a table, if it has one.
-fn entry(table: &[Option<u32>], k: u32) -> Option<u32>
+fn entry(table: &[Option<Literal>], k: u32) -> Option<Literal>
     ensures { result ≡ copy_of table.now k }
 {
     table.get(k as usize).copied().flatten()
@@ -58,7 +58,7 @@ fn entry(table: &[Option<u32>], k: u32) -> Option<u32>
 /// The literal that a literal of a graph has in another one, where its node has one there. `table`
 /// has a place for each node.
 #[tactic(auto, using(crate::proofs::CopyingLemmas::copied_literal))]
-pub fn copied(table: &[Option<u32>], literal: u32) -> Option<u32>
+pub fn copied(table: &[Option<Literal>], literal: Literal) -> Option<Literal>
     ensures { (old new : List Node) → AreCopies old new table.now → IfSome result (IsCopyOf old new literal) }
 {
     let copy = entry(table, node_of(literal))?;
@@ -71,7 +71,7 @@ pub fn copied(table: &[Option<u32>], literal: u32) -> Option<u32>
 fn copy_of(
     graph: &Graph,
     k: u32,
-    table: &[Option<u32>],
+    table: &[Option<Literal>],
     sweep: &mut Sweep,
 ) -> Result<Option<u32>, AllocError>
     requires within { k < length graph.now }
@@ -110,8 +110,8 @@ fn enter(
     graph: &Graph,
     k: u32,
     sweep: &mut Sweep,
-    table: &mut Vec<Option<u32>>,
-) -> Result<Option<u32>, AllocError>
+    table: &mut Vec<Option<Literal>>,
+) -> Result<Option<Literal>, AllocError>
     requires within { k < length graph.now }
     requires copies { AreCopies graph.now sweep.old table.old.items }
     ensures extends { Extends sweep.old sweep.new }
@@ -133,7 +133,7 @@ fn enter_ready<F: Fn(u32)>(
     graph: &Graph,
     ready: &mut Ready,
     sweep: &mut Sweep,
-    table: &mut Vec<Option<u32>>,
+    table: &mut Vec<Option<Literal>>,
     told: &F,
 ) -> Result<Vec<u32>, AllocError>
     requires told { F.IsAlwaysCallable told.now }
@@ -164,7 +164,7 @@ fn enter_again(
     waiting: &[u32],
     ready: &mut Ready,
     sweep: &mut Sweep,
-    table: &mut Vec<Option<u32>>,
+    table: &mut Vec<Option<Literal>>,
 ) -> Result<(), AllocError>
     requires within { All (λ k. k < length graph.now) waiting.now }
     requires copies { AreCopies graph.now sweep.old table.old.items }
@@ -181,7 +181,7 @@ fn enter_again(
 #[tactic(auto, using(crate::proofs::CopyingLemmas::copies_none))]
 /// A table for the literals that the nodes of a graph have in another one, without one. Fails where
 /// memory is refused.
-pub fn no_copies(alloc: Global, graph: &Graph) -> Result<Vec<Option<u32>>, AllocError>
+pub fn no_copies(alloc: Global, graph: &Graph) -> Result<Vec<Option<Literal>>, AllocError>
     ensures { IfOk result (λ table. (old new : List Node) → AreCopies old new table.items) }
 {
     vec![in alloc; None; graph.len() as usize]
@@ -199,7 +199,7 @@ pub fn copy<R: Threads + Sync, F: Fn(u32)>(
     graph: &Graph,
     marks: &[bool],
     sweep: &mut Sweep,
-    table: &mut Vec<Option<u32>>,
+    table: &mut Vec<Option<Literal>>,
     told: &F,
 ) -> Result<(), AllocError>
     requires told { F.IsAlwaysCallable told.now }

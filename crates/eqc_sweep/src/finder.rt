@@ -24,7 +24,7 @@ use crate::finder::counterexamples::{Counterexamples, ROOM};
 use crate::finder::patterns::Patterns;
 use crate::finder::team::copied;
 use crate::finder::waiting::{Waiting, team_of};
-use eqc_graph::{Graph, Node, negated, negated_if, node_of};
+use eqc_graph::{Graph, Literal, Node, negated, negated_if, node_of};
 use eqc_search::{Answer, Budget, Search};
 use std::alloc::{AllocError, Global};
 
@@ -84,8 +84,8 @@ impl Drop for Finder {
 pub(crate) fn ask_both(
     search: &mut Search,
     graph: &Graph,
-    x: u32,
-    y: u32,
+    x: Literal,
+    y: Literal,
     budget: &mut Budget,
 ) -> Result<Answer, AllocError>
     ensures { IfOk result (λ answer. answer ≡ Answer.Refuted → AreEqual graph.now x y) }
@@ -157,7 +157,11 @@ impl Finder {
     }
 
     /// The literal of a node that is older than the last one, and equal to it, if one is found.
-    pub(crate) fn older_equal(&mut self, graph: &Graph, new: u32) -> Result<Option<u32>, AllocError>
+    pub(crate) fn older_equal(
+        &mut self,
+        graph: &Graph,
+        new: u32,
+    ) -> Result<Option<Literal>, AllocError>
         requires { IsWithin graph.now new }
         ensures { IfOk result (λ found. IfSome found (IsOlder graph.now new)) }
     {
@@ -284,7 +288,7 @@ impl Finder {
     }
 
     /// Asks whether two literals differ, for what the account allows.
-    fn try_pair(&mut self, graph: &Graph, x: u32, y: u32) -> Result<Answer, AllocError>
+    fn try_pair(&mut self, graph: &Graph, x: Literal, y: Literal) -> Result<Answer, AllocError>
         ensures { IfOk result (λ answer. answer ≡ Answer.Refuted → AreEqual graph.now x y) }
     {
         let doubt = self.doubt_of(node_of(x));
@@ -345,8 +349,8 @@ impl Finder {
     pub(crate) fn compare(
         &mut self,
         graph: &Graph,
-        x: u32,
-        y: u32,
+        x: Literal,
+        y: Literal,
         conflicts: &mut u64,
     ) -> Result<Comparison, AllocError>
         ensures { IfOk result (IsRight graph.now x y) }

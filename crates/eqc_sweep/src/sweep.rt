@@ -17,7 +17,7 @@ use crate::reduced::Reduced;
 use crate::rules::reduced;
 use crate::table::Table;
 use crate::table::order::ordered;
-use eqc_graph::{Graph, Node, negated_if, node_of};
+use eqc_graph::{Graph, Literal, Node, negated_if, node_of};
 use std::alloc::{AllocError, Global};
 use std::marker::Model;
 use std::thread::Threads;
@@ -119,7 +119,7 @@ impl Sweep {
     }
 
     /// Whether the node of a literal waits. It isn't to be built on until it doesn't.
-    pub(crate) fn is_waiting(&self, literal: u32) -> bool {
+    pub(crate) fn is_waiting(&self, literal: Literal) -> bool {
         self.finder.is_waiting(node_of(literal))
     }
 
@@ -168,7 +168,7 @@ impl Sweep {
 
     #[tactic(auto, using(crate::proofs::ConstantLemmas::constant_true, crate::proofs::ConstantLemmas::constant_false))]
     /// The literal that is always true, or the one that is always false.
-    pub fn constant(&self, value: bool) -> u32
+    pub fn constant(&self, value: bool) -> Literal
         ensures { HasValue self.now result (λ _. value) }
     {
         let _ = self.graph.len();
@@ -177,7 +177,7 @@ impl Sweep {
 
     /// The literal of a variable, each time the same. Fails where memory is refused, or where there
     /// are 2^30 nodes.
-    pub fn input(&mut self, variable: u32) -> Result<u32, AllocError>
+    pub fn input(&mut self, variable: u32) -> Result<Literal, AllocError>
         ensures extends { Extends self.old self.new }
         ensures value { IfOk result (λ l. HasValue self.new l (λ a. a variable)) }
     {
@@ -186,7 +186,7 @@ impl Sweep {
 
     /// The conjunction of two literals. Fails where memory is refused, or where there are 2^30
     /// nodes.
-    pub fn and(&mut self, x: u32, y: u32) -> Result<u32, AllocError>
+    pub fn and(&mut self, x: Literal, y: Literal) -> Result<Literal, AllocError>
         requires x { IsWithin self.old x }
         requires y { IsWithin self.old y }
         ensures extends { Extends self.old self.new }
@@ -197,7 +197,7 @@ impl Sweep {
 
     /// Whether just one of two literals is true. Fails where memory is refused, or where there are
     /// 2^30 nodes.
-    pub fn xor(&mut self, x: u32, y: u32) -> Result<u32, AllocError>
+    pub fn xor(&mut self, x: Literal, y: Literal) -> Result<Literal, AllocError>
         requires x { IsWithin self.old x }
         requires y { IsWithin self.old y }
         ensures extends { Extends self.old self.new }
@@ -208,7 +208,7 @@ impl Sweep {
 
     #[tactic(auto, using(crate::proofs::SweepLemmas::value_there, crate::proofs::SweepLemmas::value_absent, crate::proofs::SweepLemmas::extends_same))]
     /// The literal of a gate, by the rules, or else by its form.
-    fn gate(&mut self, node: Node) -> Result<u32, AllocError>
+    fn gate(&mut self, node: Node) -> Result<Literal, AllocError>
         requires { IsBelow (length self.old) node }
         ensures extends { Extends self.old self.new }
         ensures value { IfOk result (HasValueOf self.old self.new node) }
@@ -226,7 +226,7 @@ impl Sweep {
     #[tactic(auto, using(crate::proofs::SweepLemmas::value_known, crate::proofs::SweepLemmas::known_put, crate::proofs::SweepLemmas::extends_same))]
     /// The literal of a node, by the table, or else of an older node that is found equal, or else
     /// of a new one.
-    fn enter(&mut self, node: Node) -> Result<u32, AllocError>
+    fn enter(&mut self, node: Node) -> Result<Literal, AllocError>
         requires { IsBelow (length self.old) node }
         ensures extends { Extends self.old self.new }
         ensures value { IfOk result (HasValueOf self.old self.new node) }
@@ -242,7 +242,7 @@ impl Sweep {
 
     #[tactic(auto, using(crate::proofs::SweepLemmas::value_new, crate::proofs::SweepLemmas::value_older, crate::proofs::SweepLemmas::taken_back, crate::proofs::SweepLemmas::extends_same, crate::proofs::TableLemmas::known_extended))]
     /// The literal of an older node that is found equal, or else of a new one.
-    fn make(&mut self, node: Node) -> Result<u32, AllocError>
+    fn make(&mut self, node: Node) -> Result<Literal, AllocError>
         requires { IsBelow (length self.old) node }
         ensures extends { Extends self.old self.new }
         ensures value { IfOk result (HasValueOf self.old self.new node) }
@@ -261,7 +261,12 @@ impl Sweep {
     /// Whether two literals are equal, by simulation and, unless there are none, by a search with
     /// so many conflicts. Those that there were are taken away, and at least one for each thousand
     /// literals that were visited. Fails where memory is refused.
-    pub fn equal(&mut self, x: u32, y: u32, conflicts: &mut u64) -> Result<Comparison, AllocError>
+    pub fn equal(
+        &mut self,
+        x: Literal,
+        y: Literal,
+        conflicts: &mut u64,
+    ) -> Result<Comparison, AllocError>
         requires x { IsWithin self.old x }
         requires y { IsWithin self.old y }
         ensures unchanged { self.new ≡ self.old }

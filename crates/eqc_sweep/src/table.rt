@@ -5,7 +5,7 @@ ghost use Rattle.eqc_sweep.specs.Known.{IsLiteralOf, AreKnown};
 
 pub(crate) mod order;
 
-use eqc_graph::Node;
+use eqc_graph::{Literal, Node};
 use std::alloc::{AllocError, Global};
 
 /// The fewest places that a table has, once it has any.
@@ -15,7 +15,7 @@ const FEWEST: usize = 1024;
 #[derive(Clone, Copy, PartialEq, Eq, Debug)]
 pub(crate) struct Known {
     pub(crate) node: Node,
-    pub(crate) literal: u32,
+    pub(crate) literal: Literal,
 }
 
 /// What a place holds that is free: the constant is never asked for, and is true.
@@ -103,7 +103,7 @@ impl Table {
     }
 
     /// The literal of a node that was asked for.
-    pub(crate) fn find(&self, node: Node) -> Option<u32>
+    pub(crate) fn find(&self, node: Node) -> Option<Literal>
         ensures { IfSome result (λ l. (nodes : List Node) → AreKnown nodes self.now.entries.items → IsLiteralOf nodes node l) }
     {
         let known = *self.entries.get(place_of(self.entries.as_slice(), node))?;
@@ -125,7 +125,7 @@ impl Table {
     }
 
     /// Keeps the literal of a node. Fails where memory is refused.
-    pub(crate) fn put(&mut self, node: Node, literal: u32) -> Result<(), AllocError>
+    pub(crate) fn put(&mut self, node: Node, literal: Literal) -> Result<(), AllocError>
         ensures { (nodes : List Node) → IsGraph nodes → AreKnown nodes self.old.entries.items → IsLiteralOf nodes node literal → AreKnown nodes self.new.entries.items }
     {
         if self.used >= self.entries.len() / 2 {

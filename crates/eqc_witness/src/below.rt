@@ -1,7 +1,7 @@
 //! The nodes below a literal, which are found again by their numbers.
 ghost use Rattle.std.specs.Prelude.{◌≡◌, ◌<◌, length, slice_index_or, IfSome};
 
-use eqc_graph::{Graph, Node, node_of};
+use eqc_graph::{Graph, Literal, Node, node_of};
 use std::alloc::{AllocError, Global};
 
 /// In a slot that is free.
@@ -104,7 +104,7 @@ impl Below {
 
     /// The node of a literal and all that it is made of, in the order of the graph. It takes time
     /// in proportion to these, and a little more to sort them. Fails where memory is refused.
-    pub(crate) fn of(alloc: Global, graph: &Graph, literal: u32) -> Result<Below, AllocError> {
+    pub(crate) fn of(alloc: Global, graph: &Graph, literal: Literal) -> Result<Below, AllocError> {
         let mut below = Below::new(alloc);
         below.enter(node_of(literal))?;
         for place in 0..graph.len() as usize {

@@ -6,6 +6,7 @@ ghost use Rattle.eqc_witness.specs.Completing.{Completes, IsCompletion};
 
 use crate::cone::Cone;
 use crate::trials::Trials;
+use eqc_graph::Literal;
 use eqc_search::{Answer, Budget, Search};
 use std::alloc::{AllocError, Global};
 
@@ -63,7 +64,7 @@ impl Means {
 
     /// Asks whether literals of a cone's graph can be true together, with a few of the conflicts
     /// that are left.
-    fn ask_shortly(&mut self, cone: &Cone, literals: &[u32]) -> Result<Answer, AllocError>
+    fn ask_shortly(&mut self, cone: &Cone, literals: &[Literal]) -> Result<Answer, AllocError>
         requires { IsSound cone.now.graph self.old.search }
         ensures sound { IsSound cone.now.graph self.new.search }
         ensures answer { IfOk result (λ answer. answer ≡ Answer.Refuted → IsRefuted cone.now.graph literals.now) }
@@ -143,7 +144,7 @@ fn tried(
 /// them, which are the least, and then near a guess.
 fn ask_near(
     cone: &Cone,
-    literals: &[u32],
+    literals: &[Literal],
     first: &[bool],
     guess: &[bool],
     means: &mut Means,

@@ -4,14 +4,14 @@ ghost use Rattle.eqc_witness.specs.Cones.{AreAssumptions, IsCone, IsCopy};
 
 use crate::below::Below;
 use crate::copying::{copies, copy_of, inputs_alone};
-use eqc_graph::{Graph, negated_if};
+use eqc_graph::{Graph, Literal, negated_if};
 use std::alloc::{AllocError, Global};
 
 /// A graph that begins with the inputs of some positions, and a literal of it.
 #[derive(Drop)]
 pub(crate) struct Cone {
     pub(crate) graph: Graph,
-    pub(crate) root: u32,
+    pub(crate) root: Literal,
     /// How many positions there are.
     pub(crate) positions: usize,
     ghost lawful: { IsCone graph root positions },
@@ -24,7 +24,7 @@ impl Cone {
     pub(crate) fn of(
         alloc: Global,
         graph: &Graph,
-        literal: u32,
+        literal: Literal,
         variables: &[u16],
     ) -> Result<Option<Cone>, AllocError>
         ensures positions { IfOk result (λ found. IfSome found (λ cone. cone.positions ≡ length variables.now)) }
@@ -45,7 +45,11 @@ impl Cone {
 
     /// Assumptions by which the root is true, and the first positions have these values. Fails
     /// where memory is refused.
-    pub(crate) fn assumptions(&self, alloc: Global, first: &[bool]) -> Result<Vec<u32>, AllocError>
+    pub(crate) fn assumptions(
+        &self,
+        alloc: Global,
+        first: &[bool],
+    ) -> Result<Vec<Literal>, AllocError>
         requires { length first.now ≤ self.now.positions }
         ensures { IfOk result (λ literals. AreAssumptions self.now.graph self.now.root first.now literals.items) }
     {

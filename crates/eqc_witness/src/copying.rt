@@ -5,7 +5,7 @@ ghost use Rattle.eqc_graph.specs.Graph.{Extends};
 ghost use Rattle.eqc_witness.specs.Cones.{AreCopies, HasInputs, IsCopy};
 
 use crate::below::Below;
-use eqc_graph::{Graph, Node, is_negated, negated_if, node_of};
+use eqc_graph::{Graph, Literal, Node, is_negated, negated_if, node_of};
 use std::alloc::{AllocError, Global};
 
 /// The first position of a variable, or the number of positions where it has none.
@@ -34,7 +34,7 @@ pub(crate) fn inputs_alone(alloc: Global, positions: usize) -> Result<Graph, All
 }
 
 /// The copy of a literal, by the copies of the first nodes, if its node is one of these.
-pub(crate) fn copy_of(below: &Below, copies: &[u32], literal: u32) -> Option<u32>
+pub(crate) fn copy_of(below: &Below, copies: &[u32], literal: Literal) -> Option<Literal>
     ensures { (old new : List Node) (variables : List ℕ) → AreCopies old new variables below.now.nodes.items copies.now → IfSome result (IsCopy old new variables literal) }
 {
     let place = below.place_of(node_of(literal))?;

@@ -5,7 +5,7 @@ ghost use Rattle.eqc_witness.specs.Cones.{holds_under, values_at};
 ghost use Rattle.eqc_witness.specs.Completing.{Completes};
 
 use crate::cone::Cone;
-use eqc_graph::Node;
+use eqc_graph::{Literal, Node};
 use std::alloc::{AllocError, Global};
 
 /// The value at a place, false behind the end.
@@ -16,7 +16,7 @@ fn value_at(values: &[bool], place: u32) -> bool
 }
 
 /// The value of a literal, where these are the values of nodes.
-fn value_among(known: &[bool], literal: u32) -> bool
+fn value_among(known: &[bool], literal: Literal) -> bool
     ensures { result ≡ value_among known.now literal }
 {
     let value = value_at(known, literal / 2);

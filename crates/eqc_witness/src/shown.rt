@@ -1,6 +1,6 @@
 //! Literals that are seen true by simulation.
 use crate::simulation::Simulation;
-use eqc_graph::{Graph, Node};
+use eqc_graph::{Graph, Literal, Node};
 use std::alloc::{AllocError, Global};
 
 /// How many times 64 assignments are tried, in a graph of no more than so many words in all: fewer
@@ -38,7 +38,7 @@ fn input_word(simulation: &mut Simulation, round: u64) -> u64 {
 pub fn first_shown(
     alloc: Global,
     graph: &Graph,
-    literals: &[u32],
+    literals: &[Literal],
 ) -> Result<Option<usize>, AllocError> {
     let mut simulation = Simulation::new(alloc, graph)?;
     let mut first = literals.len();
@@ -57,7 +57,7 @@ pub fn first_shown(
 
 /// The place of the first literal that is true in one of the words, of those before a place, or
 /// that place.
-fn first_true(simulation: &Simulation, literals: &[u32], before: usize) -> usize {
+fn first_true(simulation: &Simulation, literals: &[Literal], before: usize) -> usize {
     for place in 0..before.min(literals.len()) {
         if simulation.word_of(literals[place]) != 0 {
             return place;

@@ -1,6 +1,6 @@
 //! Simulation: a word for each node of a graph, with its value under 64 assignments. Nothing is
 //! promised of it.
-use eqc_graph::{Graph, Node, is_negated, node_of};
+use eqc_graph::{Graph, Literal, Node, is_negated, node_of};
 use eqc_sweep::Random;
 use std::alloc::{AllocError, Global};
 
@@ -48,7 +48,7 @@ impl Simulation {
 
     /// The word of a literal.
     #[inline(always)]
-    pub(crate) fn word_of(&self, literal: u32) -> u64 {
+    pub(crate) fn word_of(&self, literal: Literal) -> u64 {
         let word = self.at(node_of(literal) as usize);
         if is_negated(literal) {
             word ^ u64::MAX

@@ -1,10 +1,11 @@
 //! What a witness is looked for, and the assignments that are tried first.
+use eqc_graph::Literal;
 
 /// A literal that is to be true, and the variables over which its least assignment is looked for.
 #[derive(Clone, Copy)]
 pub struct Target<'a> {
     /// The literal.
-    pub literal: u32,
+    pub literal: Literal,
     /// The variable of each position. Where one stands twice, its first position counts.
     pub variables: &'a [u16],
 }

@@ -4,7 +4,7 @@ ghost use Rattle.std.specs.Prelude.{◌≡◌};
 ghost use Rattle.eqc_sums.specs.Forms.{Keeps};
 
 use crate::adders::{Adders, Block, is_degenerate};
-use eqc_graph::{Graph, node_of};
+use eqc_graph::{Graph, Literal, node_of};
 use eqc_sums::Reduction;
 use eqc_sweep::Sweep;
 use std::alloc::AllocError;
@@ -18,7 +18,7 @@ const LOOKS: u32 = 2_000;
 const SOME: u32 = 8;
 
 /// The literals of three in one of four polarities.
-fn polarized(x: u32, y: u32, z: u32, polarity: u32) -> (u32, u32, u32) {
+fn polarized(x: Literal, y: Literal, z: Literal, polarity: u32) -> (Literal, Literal, Literal) {
     if z == 0 {
         let p = if polarity % 2 == 1 { x ^ 1 } else { x };
         let q = if polarity / 2 == 1 { y ^ 1 } else { y };
@@ -33,13 +33,13 @@ fn polarized(x: u32, y: u32, z: u32, polarity: u32) -> (u32, u32, u32) {
 }
 
 /// Three literals without their complements.
-fn plain(x: u32, y: u32, z: u32) -> (u32, u32, u32) {
+fn plain(x: Literal, y: Literal, z: Literal) -> (Literal, Literal, Literal) {
     (x - x % 2, y - y % 2, z - z % 2)
 }
 
 /// Three literals, or their complements, where the carry of these alone is there by its gates, as
 /// that of two complements is, and no older node looks like it: else that one is better asked about.
-fn there(sweep: &Sweep, x: u32, y: u32, z: u32) -> (u32, u32, u32) {
+fn there(sweep: &Sweep, x: Literal, y: Literal, z: Literal) -> (Literal, Literal, Literal) {
     let (p, q, r) = (x ^ 1, y ^ 1, z ^ 1);
     if z == 0 || sweep.carry_there(x, y, z).is_some() {
         return (x, y, z);
@@ -51,7 +51,7 @@ fn there(sweep: &Sweep, x: u32, y: u32, z: u32) -> (u32, u32, u32) {
 }
 
 /// Whether two triples have the same nodes.
-fn has_nodes(block: &Block, x: u32, y: u32, z: u32) -> bool {
+fn has_nodes(block: &Block, x: Literal, y: Literal, z: Literal) -> bool {
     let mut one = [block.x / 2, block.y / 2, block.z / 2];
     let mut other = [x / 2, y / 2, z / 2];
     one.sort_unstable();
@@ -64,7 +64,7 @@ impl Adders {
     fn candidates_of(
         &self,
         node: u32,
-        out: &mut Vec<(u32, (u32, u32, u32))>,
+        out: &mut Vec<(u32, (Literal, Literal, Literal))>,
     ) -> Result<(), AllocError> {
         for at in 0..self.all_pairs(node) {
             if let Some((x, y)) = self.pair_or_merged(node, at) {
@@ -91,7 +91,7 @@ impl Adders {
     }
 
     /// The literals that nodes from this one on may be sums of.
-    fn candidates(&self, from: u32) -> Result<Vec<(u32, (u32, u32, u32))>, AllocError> {
+    fn candidates(&self, from: u32) -> Result<Vec<(u32, (Literal, Literal, Literal))>, AllocError> {
         let mut out = Vec::new(self.alloc);
         for node in from..self.count() {
             if !self.is_small(node) || self.is_of_more(node) {
@@ -153,7 +153,7 @@ impl Adders {
     }
 
     /// Whether three literals are known as those of a sum.
-    fn has_block(&self, sum: u32, x: u32, y: u32, z: u32) -> bool {
+    fn has_block(&self, sum: Literal, x: Literal, y: Literal, z: Literal) -> bool {
         match self.nodes.get(node_of(sum) as usize) {
             None => true,
             Some(known) => known.sums.iter().any(|block| has_nodes(block, x, y, z)),
@@ -238,9 +238,9 @@ impl Adders {
     fn tried(
         &mut self,
         reduction: &mut Reduction,
-        x: u32,
-        y: u32,
-        z: u32,
+        x: Literal,
+        y: Literal,
+        z: Literal,
         asks: bool,
     ) -> Result<Option<Block>, AllocError>
         ensures { Keeps reduction.old.sweep reduction.new.sweep reduction.old.form reduction.new.form }
@@ -278,7 +278,7 @@ impl Adders {
     fn try_block(
         &mut self,
         reduction: &mut Reduction,
-        three: (u32, u32, u32),
+        three: (Literal, Literal, Literal),
         asks: bool,
     ) -> Result<(), AllocError>
         ensures { Keeps reduction.old.sweep reduction.new.sweep reduction.old.form reduction.new.form }
@@ -303,7 +303,7 @@ impl Adders {
     fn ask_all(
         &mut self,
         reduction: &mut Reduction,
-        candidates: &[(u32, (u32, u32, u32))],
+        candidates: &[(u32, (Literal, Literal, Literal))],
         is_full: bool,
     ) -> Result<(), AllocError>
         ensures { Keeps reduction.old.sweep reduction.new.sweep reduction.old.form reduction.new.form }
@@ -322,7 +322,7 @@ impl Adders {
     fn try_all(
         &mut self,
         reduction: &mut Reduction,
-        candidates: &[(u32, (u32, u32, u32))],
+        candidates: &[(u32, (Literal, Literal, Literal))],
     ) -> Result<(), AllocError>
         ensures { Keeps reduction.old.sweep reduction.new.sweep reduction.old.form reduction.new.form }
     {
@@ -355,7 +355,7 @@ impl Adders {
 
     /// The literals of which conjunctions with an exclusive or may say that two of them or three
     /// are true.
-    fn carried(&self) -> Result<Vec<(u32, u32, u32)>, AllocError> {
+    fn carried(&self) -> Result<Vec<(Literal, Literal, Literal)>, AllocError> {
         let mut out = Vec::new(self.alloc);
         for node in 0..self.count() {
             if let Some((l, r)) = self.literals(node) {

@@ -2,7 +2,7 @@
 //! believed of it.
 ghost use Rattle.std.specs.Prelude.{◌<◌, IfSome};
 
-use eqc_graph::{Graph, Node, node_of};
+use eqc_graph::{Graph, Literal, Node, node_of};
 use std::alloc::{AllocError, Global};
 use std::collections::BinaryHeap;
 
@@ -36,7 +36,7 @@ fn write(row: &mut Vec<u32>, at: u32, value: u32) {
     }
 }
 
-fn has_entered(table: &[Option<u32>], k: u32) -> bool {
+fn has_entered(table: &[Option<Literal>], k: u32) -> bool {
     table.get(k as usize).copied().flatten().is_some()
 }
 
@@ -47,7 +47,7 @@ impl Ready {
         alloc: Global,
         graph: &Graph,
         marks: &[bool],
-        table: &[Option<u32>],
+        table: &[Option<Literal>],
     ) -> Result<Ready, AllocError> {
         let nodes = graph.len() as usize;
         let mut ready = Ready {
@@ -83,7 +83,7 @@ impl Ready {
         &mut self,
         gate: u32,
         operands: [u32; 2],
-        table: &[Option<u32>],
+        table: &[Option<Literal>],
     ) -> Result<(), AllocError> {
         let mut missing = 0u8;
         for (side, node) in operands.iter().enumerate() {

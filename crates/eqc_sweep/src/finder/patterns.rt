@@ -10,7 +10,7 @@ use crate::finder::random::Random;
 use crate::finder::words::{
     TOGETHER, Words, share_of, shares_of, word_at, word_by, words_at, words_by, words_of,
 };
-use eqc_graph::{Graph, Node};
+use eqc_graph::{Graph, Literal, Node};
 use std::alloc::{AllocError, Global};
 
 /// How many rows of counterexamples there may be.
@@ -151,7 +151,7 @@ impl Patterns {
     }
 
     /// The pattern under which two literals differ: the row, and the place in its words.
-    pub(crate) fn difference(&self, x: u32, y: u32) -> Option<(usize, u32)> {
+    pub(crate) fn difference(&self, x: Literal, y: Literal) -> Option<(usize, u32)> {
         for (at, block) in self.blocks.iter().enumerate() {
             let of_x = words_of(block.as_slice(), x);
             let of_y = words_of(block.as_slice(), y);

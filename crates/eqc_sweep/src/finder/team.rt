@@ -4,7 +4,7 @@ ghost use Rattle.std.specs.List.{All};
 ghost use Rattle.eqc_sweep.specs.Team.{IsAnswerIn, AreAnswersIn};
 
 use crate::finder::ask_both;
-use eqc_graph::Graph;
+use eqc_graph::{Graph, Literal};
 use eqc_search::{Answer, Budget, Search};
 use std::alloc::{AllocError, Global};
 use std::sync::atomic::{AtomicU64, Ordering};
@@ -56,7 +56,7 @@ pub(crate) struct Worked {
 pub(crate) fn copied(
     alloc: Global,
     values: &[(u32, bool)],
-) -> Result<Vec<(u32, bool)>, AllocError> {
+) -> Result<Vec<(Literal, bool)>, AllocError> {
     let mut copy = Vec::with_capacity(alloc, values.len())?;
     for value in values {
         copy.push(*value)?;

@@ -6,7 +6,7 @@ ghost use Rattle.eqc_sweep.specs.Team.{IsAnswerIn, ArePlacedIn, IsAsked, IsTwin}
 use crate::finder::Finder;
 use crate::finder::account::{budget_of, conflicts_left};
 use crate::finder::team::{Answered, Question};
-use eqc_graph::Graph;
+use eqc_graph::{Graph, Literal};
 use eqc_search::Answer;
 use std::alloc::{AllocError, Global};
 use std::thread::Threads;
@@ -16,8 +16,8 @@ use std::thread::Threads;
 pub struct Twins {
     /// What the caller knows them by.
     pub place: usize,
-    pub x: u32,
-    pub y: u32,
+    pub x: Literal,
+    pub y: Literal,
     /// Where they were found equal, the conflicts that it took.
     pub used: u64,
 }

@@ -1,6 +1,6 @@
 //! Words of 64 simulated values, one of each node in a row of patterns.
 
-use eqc_graph::{Node, is_negated, node_of};
+use eqc_graph::{Literal, Node, is_negated, node_of};
 
 /// So many words of a node lie together: they fill a line of a processor's cache.
 pub(crate) const TOGETHER: usize = 8;
@@ -17,7 +17,7 @@ pub(crate) fn word_at(row: &[u64], k: u32) -> u64 {
 }
 
 /// The word of a literal.
-pub(crate) fn word_of(row: &[u64], l: u32) -> u64 {
+pub(crate) fn word_of(row: &[u64], l: Literal) -> u64 {
     let word = word_at(row, node_of(l));
     if is_negated(l) { word ^ u64::MAX } else { word }
 }
@@ -42,7 +42,7 @@ pub(crate) fn words_at(block: &[Words], k: usize) -> Words {
 
 /// The words of a literal.
 #[inline(always)]
-pub(crate) fn words_of(block: &[Words], l: u32) -> Words {
+pub(crate) fn words_of(block: &[Words], l: Literal) -> Words {
     let mut words = words_at(block, node_of(l) as usize);
     let flip = if is_negated(l) { u64::MAX } else { 0 };
     for lane in 0..TOGETHER {

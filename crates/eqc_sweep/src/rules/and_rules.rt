@@ -8,10 +8,10 @@ ghost use Rattle.eqc_sweep.specs.Reducing.{StandsFor, HoldsWith, HoldsFor};
 use crate::reduced::Reduced;
 use crate::rules::gate::{Gate, gate_of};
 use crate::rules::relations::{are_opposite, excludes, implies};
-use eqc_graph::{Graph, Node, negated};
+use eqc_graph::{Graph, Literal, Node, negated};
 
 /// Of constants, of equal literals and of complements.
-fn of_itself(x: u32, y: u32) -> Option<Reduced>
+fn of_itself(x: Literal, y: Literal) -> Option<Reduced>
     ensures { (nodes : List Node) → IsGraph nodes → IsWithin nodes x → IsWithin nodes y → IfSome result (StandsFor nodes (Node.And x y)) }
 {
     if x == y || x == 0 || y == 1 {
@@ -27,7 +27,7 @@ fn of_itself(x: u32, y: u32) -> Option<Reduced>
 }
 
 /// Of x, which is p and q, with y.
-fn of_both(x: u32, p: u32, q: u32, y: u32) -> Option<Reduced>
+fn of_both(x: Literal, p: Literal, q: Literal, y: Literal) -> Option<Reduced>
     ensures { HoldsWith ◌&&◌ x p q y result }
 {
     if excludes(p, q, y) {
@@ -40,7 +40,7 @@ fn of_both(x: u32, p: u32, q: u32, y: u32) -> Option<Reduced>
 }
 
 /// Of a literal that is not both p and q, with y.
-fn of_not_both(p: u32, q: u32, y: u32) -> Option<Reduced>
+fn of_not_both(p: Literal, q: Literal, y: Literal) -> Option<Reduced>
     ensures { (x : ℕ) → HoldsWith not_both x p q y result }
 {
     if excludes(p, q, y) {
@@ -56,7 +56,7 @@ fn of_not_both(p: u32, q: u32, y: u32) -> Option<Reduced>
 }
 
 /// Of a literal that is just one of p and q, with y.
-fn of_differ(p: u32, q: u32, y: u32) -> Option<Reduced>
+fn of_differ(p: Literal, q: Literal, y: Literal) -> Option<Reduced>
     ensures { (x : ℕ) → HoldsWith differ x p q y result }
 {
     if y == p {
@@ -75,7 +75,7 @@ fn of_differ(p: u32, q: u32, y: u32) -> Option<Reduced>
 }
 
 /// Of x, whose gate is known, with y.
-fn of_one(x: u32, gate: Gate, y: u32) -> Option<Reduced>
+fn of_one(x: Literal, gate: Gate, y: Literal) -> Option<Reduced>
     ensures { (nodes : List Node) → IsGraph nodes → IsWithin nodes x → IsWithin nodes y → IsGate nodes x gate → IfSome result (StandsFor nodes (Node.And x y)) }
 {
     match gate {
@@ -87,7 +87,7 @@ fn of_one(x: u32, gate: Gate, y: u32) -> Option<Reduced>
 }
 
 /// Of p and q with r and s.
-fn of_four(p: u32, q: u32, r: u32, s: u32) -> Option<Reduced>
+fn of_four(p: Literal, q: Literal, r: Literal, s: Literal) -> Option<Reduced>
     ensures { (x y : ℕ) → HoldsFor ◌&&◌ ◌&&◌ x p q y r s result }
 {
     if excludes(p, q, r) {
@@ -100,7 +100,7 @@ fn of_four(p: u32, q: u32, r: u32, s: u32) -> Option<Reduced>
 }
 
 /// Of x, which is p and q, with a literal that is not both r and s.
-fn of_both_and_not(x: u32, p: u32, q: u32, r: u32, s: u32) -> Option<Reduced>
+fn of_both_and_not(x: Literal, p: Literal, q: Literal, r: Literal, s: Literal) -> Option<Reduced>
     ensures { (y : ℕ) → HoldsFor ◌&&◌ not_both x p q y r s result }
 {
     if excludes(p, q, r) {
@@ -119,7 +119,7 @@ fn of_both_and_not(x: u32, p: u32, q: u32, r: u32, s: u32) -> Option<Reduced>
 }
 
 /// Of literals that are not both p and q, and not both r and s, where p goes with r and q with s.
-fn of_neither(p: u32, q: u32, r: u32, s: u32) -> Option<Reduced>
+fn of_neither(p: Literal, q: Literal, r: Literal, s: Literal) -> Option<Reduced>
     ensures { (x y : ℕ) → HoldsFor not_both not_both x p q y r s result }
 {
     if are_opposite(p, r) {
@@ -137,7 +137,7 @@ fn of_neither(p: u32, q: u32, r: u32, s: u32) -> Option<Reduced>
 }
 
 /// Of two literals whose gates are known, where the first is no complement or both are.
-fn of_two(x: u32, gate: Gate, y: u32, other: Gate) -> Option<Reduced>
+fn of_two(x: Literal, gate: Gate, y: Literal, other: Gate) -> Option<Reduced>
     ensures { (nodes : List Node) → IsGraph nodes → IsWithin nodes x → IsWithin nodes y → IsGate nodes x gate → IsGate nodes y other → IfSome result (StandsFor nodes (Node.And x y)) }
 {
     match (gate, other) {
@@ -152,7 +152,7 @@ fn of_two(x: u32, gate: Gate, y: u32, other: Gate) -> Option<Reduced>
 }
 
 /// Of two literals whose gates are known, by the gate of the first, and then by both.
-fn of_gates(x: u32, gate: Gate, y: u32, other: Gate) -> Option<Reduced>
+fn of_gates(x: Literal, gate: Gate, y: Literal, other: Gate) -> Option<Reduced>
     ensures { (nodes : List Node) → IsGraph nodes → IsWithin nodes x → IsWithin nodes y → IsGate nodes x gate → IsGate nodes y other → IfSome result (StandsFor nodes (Node.And x y)) }
 {
     if let Some(reduced) = of_one(x, gate, y) {
@@ -164,7 +164,7 @@ fn of_gates(x: u32, gate: Gate, y: u32, other: Gate) -> Option<Reduced>
 #[tactic(auto, using(crate::proofs::AndLemmas::and_commuted))]
 /// What stands in place of a conjunction, by the first rule that applies to its literals in either
 /// order.
-pub(crate) fn and_rule(graph: &Graph, x: u32, y: u32) -> Option<Reduced>
+pub(crate) fn and_rule(graph: &Graph, x: Literal, y: Literal) -> Option<Reduced>
     requires x { IsWithin graph.now x }
     requires y { IsWithin graph.now y }
     ensures { IfSome result (StandsFor graph.now (Node.And x y)) }

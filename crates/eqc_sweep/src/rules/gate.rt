@@ -2,24 +2,24 @@
 ghost use Rattle.eqc_graph.specs.Graph.{IsWithin};
 ghost use Rattle.eqc_sweep.specs.Gates.{IsGate};
 
-use eqc_graph::{Graph, Node, is_negated, negated_if, node_of};
+use eqc_graph::{Graph, Literal, Node, is_negated, negated_if, node_of};
 
 /// What a literal is of two others. The complement of a gate is a kind of its own, so the rules
 /// know of no complements.
 #[derive(Clone, Copy, PartialEq, Eq, Debug)]
 pub(crate) enum Gate {
     /// Both are true.
-    Both(u32, u32),
+    Both(Literal, Literal),
     /// Not both are true.
-    NotBoth(u32, u32),
+    NotBoth(Literal, Literal),
     /// Just one is true.
-    Differ(u32, u32),
+    Differ(Literal, Literal),
     /// It has no operands.
     Other,
 }
 
 /// The gate of a literal.
-pub(crate) fn gate_of(graph: &Graph, x: u32) -> Gate
+pub(crate) fn gate_of(graph: &Graph, x: Literal) -> Gate
     requires { IsWithin graph.now x }
     ensures { IsGate graph.now x result }
 {

@@ -7,10 +7,10 @@ ghost use Rattle.eqc_sweep.specs.Reducing.{StandsFor};
 use crate::reduced::Reduced;
 use crate::rules::gate::{Gate, gate_of};
 use crate::rules::relations::are_opposite;
-use eqc_graph::{Graph, Node, negated};
+use eqc_graph::{Graph, Literal, Node, negated};
 
 /// Of constants, of equal literals and of complements.
-fn of_itself(x: u32, y: u32) -> Option<Reduced>
+fn of_itself(x: Literal, y: Literal) -> Option<Reduced>
     ensures { (nodes : List Node) → IsGraph nodes → IsWithin nodes x → IsWithin nodes y → IfSome result (StandsFor nodes (Node.Xor x y)) }
 {
     if x == y {
@@ -29,7 +29,7 @@ fn of_itself(x: u32, y: u32) -> Option<Reduced>
 }
 
 /// Of x, whose gate is known, with y.
-fn of_one(x: u32, gate: Gate, y: u32) -> Option<Reduced>
+fn of_one(x: Literal, gate: Gate, y: Literal) -> Option<Reduced>
     ensures { (nodes : List Node) → IsWithin nodes x → IsWithin nodes y → IsGate nodes x gate → IfSome result (StandsFor nodes (Node.Xor x y)) }
 {
     let Gate::Differ(p, q) = gate else {
@@ -53,7 +53,7 @@ fn of_one(x: u32, gate: Gate, y: u32) -> Option<Reduced>
 #[tactic(auto, using(crate::proofs::XorLemmas::differ_commuted))]
 /// What stands in place of a difference, by the first rule that applies to its literals in either
 /// order.
-pub(crate) fn xor_rule(graph: &Graph, x: u32, y: u32) -> Option<Reduced>
+pub(crate) fn xor_rule(graph: &Graph, x: Literal, y: Literal) -> Option<Reduced>
     requires x { IsWithin graph.now x }
     requires y { IsWithin graph.now y }
     ensures { IfSome result (StandsFor graph.now (Node.Xor x y)) }

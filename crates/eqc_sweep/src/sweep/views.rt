@@ -5,7 +5,7 @@ use crate::reduced::Reduced;
 use crate::rules::reduced;
 use crate::sweep::Sweep;
 use crate::table::order::ordered;
-use eqc_graph::{Node, negated, negated_if, node_of};
+use eqc_graph::{Literal, Node, negated, negated_if, node_of};
 
 impl Sweep {
     /// How many places there are for gates that were asked for.
@@ -24,7 +24,7 @@ impl Sweep {
     }
 
     /// The literal of a gate, if it is there by the rules or by its form.
-    fn there(&self, x: u32, y: u32, is_and: bool) -> Option<u32> {
+    fn there(&self, x: Literal, y: Literal, is_and: bool) -> Option<Literal> {
         let nodes = self.graph.len();
         if node_of(x) >= nodes || node_of(y) >= nodes {
             return None;
@@ -44,7 +44,7 @@ impl Sweep {
     }
 
     /// The carry of three literals, if its gates are there.
-    pub fn carry_there(&self, x: u32, y: u32, z: u32) -> Option<u32> {
+    pub fn carry_there(&self, x: Literal, y: Literal, z: Literal) -> Option<Literal> {
         let one = self.there(x, y, false)?;
         let both = self.there(x, y, true)?;
         let carried = self.there(one, z, true)?;
@@ -54,25 +54,25 @@ impl Sweep {
 
     /// The oldest literal that simulation doesn't tell from the carry of three others, if there is
     /// one.
-    pub fn like_carry(&self, x: u32, y: u32, z: u32) -> Option<u32> {
+    pub fn like_carry(&self, x: Literal, y: Literal, z: Literal) -> Option<u32> {
         self.finder.like_carry(&[x], y, z)
     }
 
     /// The oldest literal that simulation doesn't tell from the carry of three, of which the first
     /// is the sum of literals, if there is one.
-    pub fn like_carry_of_sum(&self, literals: &[u32], y: u32, z: u32) -> Option<u32> {
+    pub fn like_carry_of_sum(&self, literals: &[Literal], y: Literal, z: Literal) -> Option<u32> {
         self.finder.like_carry(literals, y, z)
     }
 
     /// The oldest literal that simulation doesn't tell from the sum of literals, which is true
     /// where an odd number of them are, if there is one.
-    pub fn like_sum(&self, literals: &[u32]) -> Option<u32> {
+    pub fn like_sum(&self, literals: &[Literal]) -> Option<u32> {
         self.finder.like_sum(literals)
     }
 
     /// The oldest literal that simulation doesn't tell from a node, if that isn't one of these
     /// nodes.
-    pub fn like_node(&self, node: u32, but: &[u32]) -> Option<u32> {
+    pub fn like_node(&self, node: u32, but: &[Literal]) -> Option<u32> {
         self.finder.like_node(node, but)
     }
 }

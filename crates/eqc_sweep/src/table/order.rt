@@ -1,10 +1,10 @@
 //! The one form of a gate under which it is looked up.
 ghost use Rattle.eqc_sweep.specs.Ordering.{IsFormOf, IsPlain};
 
-use eqc_graph::{Node, is_negated, negated_if};
+use eqc_graph::{Literal, Node, is_negated, negated_if};
 
 /// A literal without its complement.
-fn plain(x: u32) -> u32
+fn plain(x: Literal) -> u32
     ensures { IsPlain x result }
 {
     negated_if(x, is_negated(x))

@@ -2,10 +2,11 @@
 
 use crate::finder::patterns::Patterns;
 use crate::finder::words::{TOGETHER, Words, shares_of, words_of};
+use eqc_graph::Literal;
 
 /// The words of the sum of literals in a block of rows.
 #[inline(always)]
-fn sum_in(block: &[Words], literals: &[u32]) -> Words {
+fn sum_in(block: &[Words], literals: &[Literal]) -> Words {
     let mut words = [0; TOGETHER];
     for literal in literals {
         let others = words_of(block, *literal);
@@ -19,7 +20,7 @@ fn sum_in(block: &[Words], literals: &[u32]) -> Words {
 impl Patterns {
     /// The signature that the carry of three has, of which the first is the sum of literals, and
     /// its first simulated value.
-    pub(crate) fn carry(&self, literals: &[u32], y: u32, z: u32) -> (u64, bool) {
+    pub(crate) fn carry(&self, literals: &[Literal], y: Literal, z: Literal) -> (u64, bool) {
         let mut signature: u64 = 0;
         let mut is_flipped = false;
         for (at, block) in self.blocks.iter().enumerate() {
@@ -41,7 +42,7 @@ impl Patterns {
 
     /// The signature that the sum of literals has, which is true where an odd number of them are,
     /// and its first simulated value.
-    pub(crate) fn sum(&self, literals: &[u32]) -> (u64, bool) {
+    pub(crate) fn sum(&self, literals: &[Literal]) -> (u64, bool) {
         let mut signature: u64 = 0;
         let mut is_flipped = false;
         for (at, block) in self.blocks.iter().enumerate() {
