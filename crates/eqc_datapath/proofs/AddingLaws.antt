@@ -1,6 +1,6 @@
 -- Words of outputs whose literals are asked about, and what becomes known of them.
-use Rattle.std.proofs.Common.{◌≡◌, ◌≢◌, ℕ, ◌+◌, ◌<◌, ◌≤◌, true, List, [], ◌∷◌, ◌++◌, length, get_or}
-use Rattle.std.proofs.Common.{set, refl, sym, ◌∙◌, ap, subst, inl, inr, arith, Option, None}
+use Rattle.std.proofs.Common.{◌≡◌, ℕ, ◌+◌, ◌<◌, ◌≤◌, true, List, [], ◌∷◌, ◌++◌, length, get_or}
+use Rattle.std.proofs.Common.{set, refl, sym, ◌∙◌, ap, subst, inl, inr, arith, Option, Some, None}
 use Rattle.std.proofs.lemmas.Bool.{cases_eq}
 use Rattle.std.proofs.lemmas.List.{get_or_push, get_or_append_left, length_push}
 use Rattle.eqc_graph.specs.declared.node.Node.{Node}
@@ -8,11 +8,12 @@ use Rattle.eqc_graph.specs.Graph.{Extends}
 use Rattle.eqc_sweep.specs.Finding.{AreEqual}
 use Rattle.eqc_sums.specs.Adding.{AreEqualWords}
 use Rattle.eqc_pair.specs.PairOf.{PairOf}
+use Rattle.eqc_build.specs.Building.{reference_of}
 use Rattle.eqc_build.specs.Steps.{StepsOf, roots_of}
 use Rattle.eqc_compare.specs.Alike.{IsKnown}
 use Rattle.eqc_compare.specs.Comparing.{difference_at}
 use Rattle.eqc_compare.specs.declared.alike.Alike.{Alike}
-use Rattle.eqc_literals.specs.Literals.{IsInside, KeepsMarks, literal_of}
+use Rattle.eqc_literals.specs.Literals.{IsInside, KeepsMarks}
 use Rattle.eqc_datapath.specs.Adding.{AreAskedBy}
 use Rattle.eqc_literals.proofs.LiteralLaws.{asked_equal, equal_set, inside_stays, kept_set}
 
@@ -37,11 +38,11 @@ asking_begins g literals word = record {
 pub asking_more : (g : StepsOf) (literals : List (Option ℕ)) (word ps qs roots : List ℕ) (k x y : ℕ)
     →
     get_or word k 0 < length g.pair.first.outputs → roots ≡ roots_of g (get_or word k 0)
-    → x ≡ literal_of literals (get_or roots 0 0) → y ≡ literal_of literals (get_or roots 1 0)
-    → x ≢ 4294967295 → y ≢ 4294967295
+    → reference_of literals (get_or roots 0 0) ≡ Some x
+    → reference_of literals (get_or roots 1 0) ≡ Some y
     → IsAsking g literals word ps qs k → IsAsking g literals word (ps ++ x ∷ []) (qs ++ y ∷ []) (k
     + 1)
-asking_more g literals word ps qs roots k x y inside are ex ey some other so_far = record {
+asking_more g literals word ps qs roots k x y inside are some other so_far = record {
   first = length_push ps x ∙ ap (λ n. n + 1) so_far.first;
   second = length_push qs y ∙ ap (λ n. n + 1) so_far.second;
   each = λ nodes j is less same. elim (cases_eq j k) [
@@ -52,8 +53,8 @@ asking_more g literals word ps qs roots k x y inside are ex ey some other so_far
         (subst (λ l. AreEqual nodes (get_or (ps ++ x ∷ []) j 0) l)
         (ap (λ i. get_or (qs ++ y ∷ []) i 0) e ∙ at_end qs y k so_far.second) same) in
         ap (λ i. difference_at g.pair (get_or word i 0)) e
-        ∙ asked_equal g nodes literals roots (get_or word k 0) x y is inside are ex ey some
-        other last.value
+        ∙ asked_equal g nodes literals roots (get_or word k 0) x y is inside are some other
+        last.value
     | inr apart ↦
         let lower : j < k = omega (arith, less, apart) in
         so_far.each nodes j is lower (subst (λ l. AreEqual nodes l (get_or qs j 0))

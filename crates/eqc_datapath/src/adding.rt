@@ -19,7 +19,7 @@ use eqc_build::Steps;
 use eqc_compare::{Alike, Progress, Stage};
 use eqc_gates::needed_within;
 use eqc_graph::Literal;
-use eqc_literals::{CHARACTERS, NONE, Owned, entered, literal_of, mark, moved};
+use eqc_literals::{CHARACTERS, Owned, entered, literal_of, mark, moved};
 use eqc_numbers::{Shape, copy_shaped};
 use eqc_sweep::{Effort, Sweep};
 use std::alloc::{AllocError, Global};
@@ -132,11 +132,12 @@ pub(crate) fn literals_of(
     let mut seconds = Vec::new(alloc);
     'outputs: for k in 0..word.len() {
         let roots = steps.roots(word[k]);
-        let x = literal_of(literals, roots[0]);
-        let y = literal_of(literals, roots[1]);
-        if x == NONE || y == NONE {
+        let Some(x) = literal_of(literals, roots[0]) else {
             break;
-        }
+        };
+        let Some(y) = literal_of(literals, roots[1]) else {
+            break;
+        };
         firsts.push(x)?;
         seconds.push(y)?;
     }

@@ -25,7 +25,7 @@ use eqc_build::Steps;
 use eqc_compare::{Progress, Stage};
 use eqc_gates::needed_within;
 use eqc_graph::{Graph, Literal, negated, node_of};
-use eqc_literals::{CHARACTERS, Owned, entered, entry};
+use eqc_literals::{CHARACTERS, Owned, entered};
 use eqc_numbers::{
     Words, are_equal_anew, are_equal_by_arrays, are_equal_in_cases, are_shown_equal,
     find_lookalikes,
@@ -62,7 +62,8 @@ fn note(
     ensures { (p : PairOf) (nodes : List Node) → IsWithin nodes first → AreEqual nodes first second → AreLiterals p nodes literals.now → AreLiterals p nodes shown.old.items → AreLiterals p nodes shown.new.items }
 {
     'steps: for step in 0..shown.len() {
-        if let Some(literal) = standing_for(entry(literals, step), first, second) {
+        let literal = literals.get(step).copied().flatten();
+        if let Some(literal) = standing_for(literal, first, second) {
             shown[step] = Some(literal);
         }
     }

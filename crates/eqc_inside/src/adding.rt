@@ -10,7 +10,7 @@ use eqc_adders::has_adders;
 use eqc_build::Steps;
 use eqc_compare::{Alike, Progress, is_settled};
 use eqc_datapath::{MOST_NODES, Task, Turn, add_open, limits_in};
-use eqc_graph::{Literal, Node, node_of};
+use eqc_graph::{Node, node_of};
 use eqc_literals::literal_of;
 use eqc_netlist::Name;
 use eqc_numbers::words_of;
@@ -42,8 +42,11 @@ pub(crate) enum Meant {
 }
 
 impl<'a> Inside<'a> {
-    /// Whether the signal of a literal is an exclusive or.
-    fn is_sum(&self, literal: Literal) -> bool {
+    /// Whether the signal of a step is an exclusive or.
+    fn is_sum(&self, step: u32) -> bool {
+        let Some(literal) = literal_of(&self.literals, step) else {
+            return false;
+        };
         let graph = self.sweep.graph();
         let node = node_of(literal);
         node < graph.len() && matches!(graph.node(node), Node::Xor(_, _))
@@ -54,8 +57,7 @@ impl<'a> Inside<'a> {
         requires { output < length self.now.first.outputs }
     {
         let roots = self.steps.roots(output);
-        self.is_sum(literal_of(&self.literals, roots[0]))
-            && self.is_sum(literal_of(&self.literals, roots[1]))
+        self.is_sum(roots[0]) && self.is_sum(roots[1])
     }
 
     /// The part of a word that is to be shown equal: from its lowest output to its highest one that

@@ -10,7 +10,7 @@ use crate::inside::Inside;
 use eqc_build::Steps;
 use eqc_compare::{Alike, Progress, is_marked};
 use eqc_graph::Literal;
-use eqc_literals::{NONE, literal_of, mark};
+use eqc_literals::{literal_of, mark};
 use eqc_sweep::{Sweep, Twins};
 use std::alloc::{AllocError, Global};
 use std::thread::Threads;
@@ -27,11 +27,12 @@ fn is_shown(steps: &Steps<'_>, sweep: &Sweep, literals: &[Option<Literal>], twin
     ensures { IsTrue result → difference_at steps.now.pair twins.place ≡ None }
 {
     let roots = steps.roots(twins.place);
-    let x = literal_of(literals, roots[0]);
-    let y = literal_of(literals, roots[1]);
-    if x == NONE || y == NONE {
+    let Some(x) = literal_of(literals, roots[0]) else {
         return false;
-    }
+    };
+    let Some(y) = literal_of(literals, roots[1]) else {
+        return false;
+    };
     if x != twins.x || y != twins.y {
         return false;
     }
@@ -98,7 +99,8 @@ fn unmarked(alloc: Global, alike: &Alike, some: &[Twins]) -> Result<Vec<Twins>, 
 }
 
 impl<'a> Inside<'a> {
-    /// The two literals of an output, where it isn't known to be equal and not seen to differ.
+    /// The two literals of an output, where it has them, isn't known to be equal and not seen to
+    /// differ.
     fn open_twins(&mut self, alike: &Alike, output: usize) -> Option<Twins>
         requires { output < length self.old.first.outputs }
         ensures { self.new ≡ self.old }
@@ -112,8 +114,8 @@ impl<'a> Inside<'a> {
         let roots = self.steps.roots(output);
         Some(Twins {
             place: output,
-            x: literal_of(&self.literals, roots[0]),
-            y: literal_of(&self.literals, roots[1]),
+            x: literal_of(&self.literals, roots[0])?,
+            y: literal_of(&self.literals, roots[1])?,
             used: 0,
         })
     }
@@ -137,10 +139,7 @@ impl<'a> Inside<'a> {
                 return Ok((some, output));
             }
             watch.step(rt, output, outputs);
-            if let Some(twins) = self.open_twins(alike, output)
-                && twins.x != NONE
-                && twins.y != NONE
-            {
+            if let Some(twins) = self.open_twins(alike, output) {
                 some.push(twins)?;
             }
         }

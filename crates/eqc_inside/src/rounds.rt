@@ -7,7 +7,7 @@ use crate::inside::Inside;
 use eqc_build::Steps;
 use eqc_compare::{Alike, Progress, is_settled};
 use eqc_graph::Literal;
-use eqc_literals::{NONE, Owned, literal_of, moved};
+use eqc_literals::{Owned, literal_of, moved};
 use eqc_pair::Pair;
 use eqc_sweep::{Comparison, Effort, Sweep, Tally, below, copy, no_copies};
 use std::alloc::{AllocError, Global};
@@ -178,16 +178,14 @@ pub(crate) fn open_literals(
     for output in 0..steps.pair().first().outputs().len() {
         if !is_settled(steps.pair(), marks, output) {
             for step in steps.roots(output).iter().take(netlists) {
-                let literal = literal_of(literals, *step);
-                if literal != NONE {
+                if let Some(literal) = literal_of(literals, *step) {
                     open.push(literal)?;
                 }
             }
         }
     }
     if let Some(step) = steps.assumed_root() {
-        let literal = literal_of(literals, step);
-        if literal != NONE {
+        if let Some(literal) = literal_of(literals, step) {
             open.push(literal)?;
         }
     }
@@ -201,11 +199,12 @@ impl<'a> Inside<'a> {
         ensures { self.new ≡ self.old }
     {
         let roots = self.steps.roots(output);
-        let x = literal_of(&self.literals, roots[0]);
-        let y = literal_of(&self.literals, roots[1]);
-        if x == NONE || y == NONE {
+        let Some(x) = literal_of(&self.literals, roots[0]) else {
             return false;
-        }
+        };
+        let Some(y) = literal_of(&self.literals, roots[1]) else {
+            return false;
+        };
         matches!(self.sweep.equal(x, y, &mut 0), Ok(Comparison::Differs(_)))
     }
 

@@ -1,10 +1,10 @@
 -- Steps of one literal are chosen for one another, and outputs whose two steps have one literal
 -- never differ.
-use Rattle.std.proofs.Common.{◌≡◌, ◌≢◌, ◌⊎◌, ℕ, ◌+◌, ◌<◌, ◌≤◌, Bool, true, false, List, [], ◌∷◌}
-use Rattle.std.proofs.Common.{◌++◌, length, get_or, set, min, refl, sym, ◌∙◌, ap, subst, arith, inl}
+use Rattle.std.proofs.Common.{◌≡◌, ◌⊎◌, ℕ, ◌+◌, ◌<◌, ◌≤◌, Bool, true, false, List, [], ◌∷◌}
+use Rattle.std.proofs.Common.{◌++◌, length, get_or, set, min, refl, sym, ◌∙◌, ap, arith, inl}
 use Rattle.std.proofs.Common.{inr, None}
 use Rattle.std.proofs.lemmas.List.{get_or_append_left, get_or-set_same, get_or-set_other}
-use Rattle.std.proofs.lemmas.List.{get_or_default, get_or_past, length-append}
+use Rattle.std.proofs.lemmas.List.{get_or_past, length-append}
 use Rattle.std.proofs.Math.ListN.{length-set}
 use Rattle.std.proofs.Math.Nat.{min-eq_left, min-eq_right}
 use Rattle.std.proofs.Math.Seq.{get_or-append_seam}
@@ -22,204 +22,155 @@ use Rattle.eqc_compare.specs.Alike.{AreEqual}
 use Rattle.std.specs.Prelude.{Option, Some}
 use Rattle.std.specs.Option.{unwrap_or}
 use Rattle.eqc_build.specs.Building.{reference_of}
-use Rattle.eqc_sweep.specs.Sweeping.{HasValue}
 use Rattle.eqc_gates.specs.Entering.{AreLiterals}
 use Rattle.eqc_gates.proofs.EnteringLaws.{literals_stay}
-use Rattle.eqc_literals.specs.Literals.{HaveOneLiteral, IsInside, KeepsMarks, TellEqual, literal_of}
+use Rattle.eqc_literals.specs.Literals.{HaveOneLiteral, IsInside, KeepsMarks, TellEqual}
 use Rattle.eqc_graph.specs.declared.node.Node.{Node}
-use Rattle.eqc_graph.specs.Graph.{literal_value, Extends, IsWithin}
+use Rattle.eqc_graph.specs.Graph.{literal_value, Extends}
 use Rattle.eqc_compare.proofs.AlikeLaws.{never_where}
 use Rattle.eqc_compare.proofs.DifferenceLaws.{none_is}
 
 -- ---- steps
 
--- each literal below the table's length has none of the first n steps, or one of them
-abbrev pub AreNoted : List (Option ℕ) → List ℕ → ℕ → Type 0
-AreNoted literals firsts n = (l : ℕ) → l < length firsts → (get_or firsts l 0 ≡ 4294967295)
-    ⊎ ((get_or firsts l 0 < n) × (literal_of literals (get_or firsts l 0) ≡ l))
+-- the first step that is noted for a literal is one of the first n, and has it
+abbrev pub AreNoted : List (Option ℕ) → List (Option ℕ) → ℕ → Type 0
+AreNoted literals firsts n = (l first : ℕ) → reference_of firsts l ≡ Some first
+    → (first < n) × (reference_of literals first ≡ Some l)
 
 -- in place of the first n steps steps of their values are chosen
-pub record AreChosen (p : PairOf) (literals : List (Option ℕ)) (firsts more : List ℕ) (n : ℕ) : Type
+pub record AreChosen (p : PairOf) (literals firsts : List (Option ℕ)) (more : List ℕ) (n : ℕ) : Type
     0 where
-  pub few : length firsts ≤ 4294967295
   pub size : length more ≡ n
   pub noted : AreNoted literals firsts n
   pub early : (k : ℕ) → k < n → chosen_for more k ≤ k
   pub same : (k : ℕ) (a : ℕ → Bool) → k < n → value_at p a (chosen_for more k) ≡ value_at p a k
 
-pub chosen_none : (p : PairOf) (literals : List (Option ℕ)) (firsts : List ℕ)
-    → length firsts ≤ 4294967295 →
-    ((l : ℕ) → l < length firsts → get_or firsts l 0 ≡ 4294967295)
-    → AreChosen p literals firsts [] 0
-chosen_none p literals firsts few none = record {
-  few = few;
+pub chosen_none : (p : PairOf) (literals firsts : List (Option ℕ))
+    → ((l : ℕ) → reference_of firsts l ≡ None) → AreChosen p literals firsts [] 0
+chosen_none p literals firsts none = record {
   size = refl;
-  noted = λ l lt. inl (none l lt);
+  noted = λ l first is. absurd (let q : None ≡ Some first = sym (none l) ∙ is in cc);
   early = λ k lt. absurd (omega arith);
   same = λ k a lt. absurd (omega arith);
 }
 
--- the first step of a literal is the one that came with it, or an earlier one of this literal,
--- which is one
-pub record IsFirst (literals : List (Option ℕ)) (firsts : List ℕ) (n step first : ℕ) : Type 0 where
+-- the first step of a literal is the one that came with it, or an earlier one of this literal
+pub record IsFirst (literals : List (Option ℕ)) (step first l : ℕ) : Type 0 where
   pub low : first ≤ step
-  pub within : literal_of literals step < length firsts → literal_of literals first
-      ≡ literal_of literals step
-  pub by : (first ≡ step) ⊎ HaveOneLiteral literals first step
+  pub literal : reference_of literals first ≡ Some l
 
-pub first_is : (literals : List (Option ℕ)) (firsts : List ℕ) (n step first : ℕ)
-    → length firsts ≤ 4294967295 → AreNoted literals firsts n →
-    step ≤ n → n < 4294967295 → first ≡ min (get_or firsts (literal_of literals step) step) step
-    → IsFirst literals firsts n step first
-first_is literals firsts n step first few noted early low is =
-    elim (cases_lt (literal_of literals step) (length firsts)) [
-      | inr past ↦
-          let itself : first ≡ step = is
-          ∙ (ap (λ f. min f step) (get_or_past firsts (literal_of literals step) step past)
-          ∙ min-eq_left (omega arith)) in
-          record { low = omega (arith, itself); within = λ lt. absurd (omega arith); by = inl itself }
-      | inl inside ↦
-          let read : get_or firsts (literal_of literals step) step
-          ≡ get_or firsts (literal_of literals step) 0 =
-          get_or_default firsts (literal_of literals step) step 0 inside in
-          at inside (is ∙ ap (λ f. min f step) read) (noted (literal_of literals step) inside)
-    ]
+pub first_is : (literals firsts : List (Option ℕ)) (n step first l : ℕ)
+    → AreNoted literals firsts n → reference_of literals step ≡ Some l
+    → first ≡ min (unwrap_or (reference_of firsts l) step) step → IsFirst literals step first l
+first_is literals firsts n step first l noted here is = by (reference_of firsts l) refl
   where
-    itself : first ≡ step → IsFirst literals firsts n step first
+    itself : first ≡ step → IsFirst literals step first l
     itself e = record {
       low = omega (arith, e);
-      within = λ lt. ap (literal_of literals) e;
-      by =
-          inl e;
+      literal = ap (reference_of literals) e ∙ here;
     }
 
-    at : literal_of literals step < length firsts
-        → first ≡ min (get_or firsts (literal_of literals step) 0) step →
-        (get_or firsts (literal_of literals step) 0 ≡ 4294967295) ⊎
-        ((get_or firsts (literal_of literals step) 0 < n)
-        × (literal_of literals (get_or firsts (literal_of literals step) 0)
-        ≡ literal_of literals step)) →
-        IsFirst literals firsts n step first
-    at inside e (inl none) = itself (e ∙ min-eq_right (omega (arith, none)))
-    at inside e (inr met) = elim (cases_lt (get_or firsts (literal_of literals step) 0) step) [
-      | inl lower ↦
-          let found : first ≡ get_or firsts (literal_of literals step) 0 = e
-          ∙ min-eq_left (omega arith) in
-          let one : literal_of literals first ≡ literal_of literals step =
-          ap (literal_of literals) found ∙ met.1 in
-          record {
-            low = omega (arith, found);
-            within = λ lt. one;
-            by =
-                inr (record { some = λ none. absurd (omega (arith, none, one)); one = one });
-          }
-      | inr higher ↦ itself (e ∙ min-eq_right higher)
-    ]
+    by : (before : Option ℕ) → reference_of firsts l ≡ before → IsFirst literals step first l
+    by None e = itself (is ∙ (ap (λ r. min (unwrap_or r step) step) e ∙ min-eq_left (omega arith)))
+    by (Some f) e =
+        let least : first ≡ min f step = is ∙ ap (λ r. min (unwrap_or r step) step) e in
+        elim (cases_lt f step) [
+          | inl lower ↦
+              let found : first ≡ f = least ∙ min-eq_left (omega arith) in
+              record {
+                low = omega (arith, found);
+                literal = ap (reference_of literals) found ∙ (noted l f e).1;
+              }
+          | inr higher ↦ itself (least ∙ min-eq_right higher)
+        ]
 
 -- one step more
-pub chosen_more : (p : PairOf) (chosen : List ℕ) (literals : List (Option ℕ)) (firsts more : List ℕ)
-    (n first : ℕ) → IsChoice p chosen → TellEqual p literals → n < steps_in p → n < 4294967295
-    → first ≡ min (get_or firsts (literal_of literals (chosen_for chosen n)) (chosen_for chosen n))
-    (chosen_for chosen n)
-    → AreChosen p literals firsts more n
-    → AreChosen p literals (set firsts (literal_of literals (chosen_for chosen n)) first) (more
-    ++ first ∷ []) (n + 1)
-chosen_more p chosen literals firsts more n first choice tell inside few is m = record {
-  few = omega (arith, m.few, length-set firsts (literal_of literals step) first);
+chosen_more : (p : PairOf) (literals old new : List (Option ℕ)) (more : List ℕ) (n first : ℕ)
+    → first ≤ n → ((a : ℕ → Bool) → value_at p a first ≡ value_at p a n)
+    → AreNoted literals new (n + 1) → AreChosen p literals old more n
+    → AreChosen p literals new (more ++ first ∷ []) (n + 1)
+chosen_more p literals old new more n first low value noted m = record {
   size = omega (arith, m.size, length-append more (first ∷ []));
-  noted = λ l lt. noted l (omega (arith, lt, length-set firsts (literal_of literals step) first));
+  noted = noted;
   early = λ k lt. elim (cases_eq k n) [
-    | inl e ↦ omega (
-      arith,
-      ap (chosen_for (more ++ first ∷ [])) e,
-      at_end,
-      found.low,
-      choice.early n inside,
-      e,
-    )
+    | inl e ↦ omega (arith, ap (chosen_for (more ++ first ∷ [])) e, at_end, low, e)
     | inr other ↦ omega (
       arith,
-      old k (omega (arith, lt, other)),
+      before k (omega (arith, lt, other)),
       m.early k (omega (arith, lt, other)),
     )
   ];
   same = λ k a lt. elim (cases_eq k n) [
     | inl e ↦ ap (λ i. value_at p a (chosen_for (more ++ first ∷ []) i)) e
         ∙ (ap (value_at p a) at_end ∙ (value a ∙ sym (ap (value_at p a) e)))
-    | inr other ↦ ap (value_at p a) (old k (omega (arith, lt, other)))
+    | inr other ↦ ap (value_at p a) (before k (omega (arith, lt, other)))
         ∙ m.same k a (omega (arith, lt, other))
   ];
 }
   where
-    step : ℕ
-    step = chosen_for chosen n
-
-    found : IsFirst literals firsts n step first
-    found = first_is literals firsts n step first m.few m.noted (choice.early n inside) few is
-
     at_end : chosen_for (more ++ first ∷ []) n ≡ first
     at_end = ap (λ i. get_or (more ++ first ∷ []) i n) (sym m.size)
         ∙ get_or-append_seam more first [] n
 
-    old : (k : ℕ) → k < n → chosen_for (more ++ first ∷ []) k ≡ chosen_for more k
-    old k lt = get_or_append_left more (first ∷ []) k k (omega (arith, lt, m.size))
+    before : (k : ℕ) → k < n → chosen_for (more ++ first ∷ []) k ≡ chosen_for more k
+    before k lt = get_or_append_left more (first ∷ []) k k (omega (arith, lt, m.size))
+
+-- a step without a literal, in place of which the one is chosen that was chosen already
+pub chosen_without : (p : PairOf) (chosen : List ℕ) (literals firsts : List (Option ℕ))
+    (more : List ℕ) (n step : ℕ) → IsChoice p chosen → n < steps_in p
+    → step ≡ chosen_for chosen n → AreChosen p literals firsts more n
+    → AreChosen p literals firsts (more ++ step ∷ []) (n + 1)
+chosen_without p chosen literals firsts more n step choice inside by m =
+    chosen_more p literals firsts firsts more n step
+    (omega (arith, by, choice.early n inside))
+    (λ a. ap (value_at p a) by ∙ choice.same n a inside)
+    (λ l first is. (omega (arith, (m.noted l first is).0), (m.noted l first is).1)) m
+
+-- a step of a literal, in place of which the first one of it is chosen
+pub chosen_by : (p : PairOf) (chosen : List ℕ) (literals firsts : List (Option ℕ)) (more : List ℕ)
+    (n step l first : ℕ) → IsChoice p chosen → TellEqual p literals → n < steps_in p
+    → step ≡ chosen_for chosen n → reference_of literals step ≡ Some l
+    → first ≡ min (unwrap_or (reference_of firsts l) step) step
+    → AreChosen p literals firsts more n
+    → AreChosen p literals (set firsts l (Some first)) (more ++ first ∷ []) (n + 1)
+chosen_by p chosen literals firsts more n step l first choice tell inside by here is m =
+    chosen_more p literals firsts (set firsts l (Some first)) more n first low value noted m
+  where
+    found : IsFirst literals step first l
+    found = first_is literals firsts n step first l m.noted here is
+
+    early : step ≤ n
+    early = omega (arith, by, choice.early n inside)
+
+    low : first ≤ n
+    low = omega (arith, found.low, early)
 
     value : (a : ℕ → Bool) → value_at p a first ≡ value_at p a n
-    value a = by found.by
+    value a = tell.each first step a (omega (arith, low, inside)) (omega (arith, early, inside))
+        (record { literal = l; first = found.literal; second = here })
+        ∙ (ap (value_at p a) by ∙ choice.same n a inside)
+
+    noted : AreNoted literals (set firsts l (Some first)) (n + 1)
+    noted k f is = at (cases_eq k l) (cases_lt l (length firsts))
       where
-        by : (first ≡ step) ⊎ HaveOneLiteral literals first step → value_at p a first
-            ≡ value_at p a n
-        by (inl e) = ap (value_at p a) e ∙ choice.same n a inside
-        by (inr one) = tell.each first step a (omega (
-          arith,
-          found.low,
-          choice.early n inside,
-          inside,
-        )) (omega (arith, choice.early n inside, inside)) one ∙ choice.same n a inside
+        at : (k ≡ l) ⊎ (k ≡ l → ⊥) → (l < length firsts) ⊎ (length firsts ≤ l)
+            → (f < n + 1) × (reference_of literals f ≡ Some k)
+        at (inl e) (inl within) =
+            let read : Some first ≡ Some f = sym (get_or-set_same firsts l (Some first) None within)
+            ∙ (ap (reference_of (set firsts l (Some first))) (sym e) ∙ is) in
+            let same : first ≡ f = cc in (
+              omega (arith, low, same),
+              ap (reference_of literals) (sym same) ∙ (found.literal ∙ ap Some (sym e)),
+            )
+        at (inl e) (inr past) =
+            let none : None ≡ Some f = sym (get_or_past (set firsts l (Some first)) k None
+            (omega (arith, e, past, length-set firsts l (Some first)))) ∙ is in
+            absurd (cc)
+        at (inr other) place =
+            let met = m.noted k f (sym (get_or-set_other firsts l k (Some first) None other) ∙ is)
+            in (omega (arith, met.0), met.1)
 
-    noted : (l : ℕ) → l < length firsts →
-        (get_or (set firsts (literal_of literals step) first) l 0 ≡ 4294967295) ⊎
-        ((get_or (set firsts (literal_of literals step) first) l 0 < n + 1)
-        × (literal_of literals (get_or (set firsts (literal_of literals step) first) l 0) ≡ l))
-    noted l lt = elim (cases_eq l (literal_of literals step)) [
-      | inl e ↦
-          let here : literal_of literals step < length firsts = omega (arith, e, lt) in
-          let read : get_or (set firsts (literal_of literals step) first) l 0 ≡ first =
-          ap (λ i. get_or (set firsts (literal_of literals step) first) i 0) e
-          ∙ get_or-set_same firsts (literal_of literals step) first 0 here in
-          inr (
-            omega (arith, read, found.low, choice.early n inside),
-            ap (literal_of literals) read
-                ∙ (found.within here ∙ sym e),
-          )
-      | inr other ↦
-          let read : get_or (set firsts (literal_of literals step) first) l 0 ≡ get_or firsts l 0 =
-          get_or-set_other firsts (literal_of literals step) l first 0 other in
-          elim (m.noted l lt) [
-            | inl none ↦ inl (read ∙ none)
-            | inr met ↦ inr (omega (arith, read, met.0), ap (literal_of literals) read ∙ met.1)
-          ]
-    ]
-
--- as the loop comes by its step and its literal
-pub chosen_by : (p : PairOf) (chosen : List ℕ) (literals : List (Option ℕ)) (firsts more : List ℕ)
-    (n step literal first : ℕ) →
-    IsChoice p chosen → TellEqual p literals → n < steps_in p → n < 4294967295
-    → step ≡ chosen_for chosen n → literal ≡ literal_of literals step
-    → first ≡ min (get_or firsts literal step) step
-    → AreChosen p literals firsts more n → AreChosen p literals (set firsts literal first) (more
-    ++ first ∷ []) (n + 1)
-chosen_by p chosen literals firsts more n step literal first choice tell inside few by at is m =
-    let e : literal ≡ literal_of literals (chosen_for chosen n) = at ∙ ap (literal_of literals) by
-    in
-    let least : first ≡ min (get_or firsts (literal_of literals (chosen_for chosen n))
-    (chosen_for chosen n)) (chosen_for chosen n) = is
-    ∙ (ap (λ s. min (get_or firsts literal s) s) by
-    ∙ ap (λ l. min (get_or firsts l (chosen_for chosen n)) (chosen_for chosen n)) e) in
-    subst (λ l. AreChosen p literals (set firsts l first) (more ++ first ∷ []) (n + 1)) (sym e)
-    (chosen_more p chosen literals firsts more n first choice tell inside few least m)
-
-pub chosen_all : (p : PairOf) (literals : List (Option ℕ)) (firsts more : List ℕ)
+pub chosen_all : (p : PairOf) (literals firsts : List (Option ℕ)) (more : List ℕ)
     → AreChosen p literals firsts more (steps_in p) → IsChoice p more
 chosen_all p literals firsts more m = record { early = m.early; same = m.same }
 
@@ -344,49 +295,25 @@ inside_none g nodes are = record {
       record { each = λ k l is. absurd (let q = is in cc) };
 }
 
--- the value of a step that has a literal is the literal's
-pub has_value : (p : PairOf) (nodes : List Node) (literals : List (Option ℕ)) (k : ℕ)
-    → AreLiterals p nodes literals →
-    literal_of literals k ≢ 4294967295 → HasValue nodes (literal_of literals k)
-    (λ a. value_at p a k)
-has_value p nodes literals k are some = by (reference_of literals k) refl some
-  where
-    by : (r : Option ℕ) → reference_of literals k ≡ r → unwrap_or r 4294967295 ≢ 4294967295
-        → HasValue nodes (unwrap_or r 4294967295) (λ a. value_at p a k)
-    by None e has = absurd (has refl)
-    by (Some l) e has = are.each k l e
-
 -- steps of one literal have the value of it
 pub tell_equal : (p : PairOf) (nodes : List Node) (literals : List (Option ℕ))
     → AreLiterals p nodes literals → TellEqual p literals
 tell_equal p nodes literals are = record {
-  each = λ j k a hj hk h. sym ((has_value p nodes literals j are h.some).value a)
-      ∙ (ap (literal_value nodes a) h.one
-      ∙ (has_value p nodes literals k are (λ none. h.some (h.one ∙ none))).value a);
+  each = λ j k a hj hk h. sym ((are.each j h.literal h.first).value a)
+      ∙ (are.each k h.literal h.second).value a;
 }
-
--- the literal of a step that has one is the graph's
-pub literal_within : (g : StepsOf) (nodes : List Node) (literals : List (Option ℕ)) (j l : ℕ)
-    → IsInside g nodes literals → l ≡ literal_of literals j → l ≢ 4294967295 → IsWithin nodes l
-literal_within g nodes literals j l is e some =
-    subst (IsWithin nodes) (sym e) (has_value g.pair nodes literals j is.values (λ none. some (e
-    ∙ none))).within
 
 -- an output never differs whose two literals have one value under all assignments
 pub asked_equal : (g : StepsOf) (nodes : List Node) (literals : List (Option ℕ)) (roots : List ℕ)
     (o x y : ℕ) → IsInside g nodes literals → o < length g.pair.first.outputs → roots ≡ roots_of g o
-    → x ≡ literal_of literals (get_or roots 0 0) → y ≡ literal_of literals (get_or roots 1 0)
-    → x ≢ 4294967295 → y ≢ 4294967295
+    → reference_of literals (get_or roots 0 0) ≡ Some x
+    → reference_of literals (get_or roots 1 0) ≡ Some y
     → ((a : ℕ → Bool) → literal_value nodes a x ≡ literal_value nodes a y) → difference_at g.pair o
     ≡ None
-asked_equal g nodes literals roots o x y is inside are ex ey some other same =
+asked_equal g nodes literals roots o x y is inside are first second same =
     roots_never_differ g o roots is.lawful inside are
-    (λ a. sym ((has_value g.pair nodes literals (get_or roots 0 0) is.values (λ none. some (ex
-    ∙ none))).value a)
-    ∙ (ap (literal_value nodes a) (sym ex)
-    ∙ (same a ∙ (ap (literal_value nodes a) ey
-    ∙ (has_value g.pair nodes literals (get_or roots 1 0) is.values (λ none. other (ey
-    ∙ none))).value a))))
+    (λ a. sym ((is.values.each (get_or roots 0 0) x first).value a)
+    ∙ (same a ∙ (is.values.each (get_or roots 1 0) y second).value a))
 
 -- what is inside stays where the graph goes on
 pub inside_stays : (g : StepsOf) (old new : List Node) (literals : List (Option ℕ))

@@ -1,5 +1,6 @@
 -- The literals of steps in a graph into which another one was copied.
-use Rattle.std.proofs.Common.{◌≡◌, ℕ, ◌+◌, ◌<◌, List, [], ◌∷◌, ◌++◌, length, Option, Some, None}
+use Rattle.std.proofs.Common.{◌≡◌, ℕ, ◌+◌, ◌<◌, Bool, List, [], ◌∷◌, ◌++◌, length, Option, Some}
+use Rattle.std.proofs.Common.{None}
 use Rattle.std.proofs.Common.{IfSome, refl, sym, ◌∙◌, ap, inl, inr, arith}
 use Rattle.std.proofs.lemmas.Bool.{cases_eq, cases_lt}
 use Rattle.std.proofs.lemmas.List.{get_or_push, get_or_append_left, get_or_past, length_push}
@@ -11,14 +12,19 @@ use Rattle.eqc_build.specs.Building.{reference_of}
 use Rattle.eqc_build.specs.Steps.{value_at}
 use Rattle.eqc_gates.specs.Entering.{AreLiterals}
 
--- a copy of a step's literal has the step's value
-pub moved_value : (p : PairOf) (old new : List Node) (literals table : List (Option ℕ)) (step l : ℕ)
-    (x : Option ℕ) → AreLiterals p old literals → AreCopies old new table
-    → reference_of literals step ≡ Some l → IfSome x (IsCopyOf old new l)
-    → IfSome x (λ m. HasValue new m (λ a. value_at p a step))
-moved_value p old new literals table step l (Some m) are copies is has =
-    record { within = has.within; value = λ a. has.value a ∙ (are.each step l is).value a }
-moved_value p old new literals table step l None are copies is has = has
+-- a copy of a literal has its value
+pub moved_value : (old new : List Node) (l : ℕ) (f : (ℕ → Bool) → Bool) (x : Option ℕ)
+    → HasValue old l f → IfSome x (IsCopyOf old new l) → IfSome x (λ m. HasValue new m f)
+moved_value old new l f (Some m) is has =
+    record { within = has.within; value = λ a. has.value a ∙ is.value a }
+moved_value old new l f None is has = has
+
+-- the literal of a step has the step's value, if it has one
+pub literal_has : (p : PairOf) (nodes : List Node) (literals : List (Option ℕ)) (step : ℕ)
+    (x : Option ℕ) → AreLiterals p nodes literals → reference_of literals step ≡ x
+    → IfSome x (λ l. HasValue nodes l (λ a. value_at p a step))
+literal_has p nodes literals step (Some l) are is = are.each step l is
+literal_has p nodes literals step None are is = record {}
 
 -- the first k steps were moved
 pub record IsMoving (literals table all : List (Option ℕ)) (k : ℕ) : Type 0 where

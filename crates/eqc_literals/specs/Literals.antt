@@ -1,6 +1,5 @@
 -- What literals of a graph tell of a pair.
-use Rattle.std.specs.Prelude.{◌≡◌, ◌≢◌, ℕ, ◌<◌, true, Bool, List, length, Option}
-use Rattle.std.specs.Option.{unwrap_or}
+use Rattle.std.specs.Prelude.{◌≡◌, ℕ, ◌<◌, true, Bool, List, length, Option, Some}
 use Rattle.eqc_pair.specs.PairOf.{PairOf}
 use Rattle.eqc_build.specs.Building.{reference_of}
 use Rattle.eqc_build.specs.Steps.{StepsOf, AreSteps, steps_in, value_at}
@@ -8,14 +7,11 @@ use Rattle.eqc_build.specs.Turns.{is_marked}
 use Rattle.eqc_graph.specs.declared.node.Node.{Node}
 use Rattle.eqc_gates.specs.Entering.{AreLiterals}
 
--- the literal of a step, 4294967295 where it has none
-abbrev pub literal_of : List (Option ℕ) → ℕ → ℕ
-literal_of literals k = unwrap_or (reference_of literals k) 4294967295
-
 -- two steps have one literal
 pub record HaveOneLiteral (literals : List (Option ℕ)) (j k : ℕ) : Type 0 where
-  pub some : literal_of literals j ≢ 4294967295
-  pub one : literal_of literals j ≡ literal_of literals k
+  pub literal : ℕ
+  pub first : reference_of literals j ≡ Some literal
+  pub second : reference_of literals k ≡ Some literal
 
 -- steps of one literal have one value
 pub record TellEqual (p : PairOf) (literals : List (Option ℕ)) : Type 0 where

@@ -1,10 +1,12 @@
 //! Steps that are chosen in place of others: steps of one literal have one value, so that one of
 //! them needs to be made.
-ghost use Rattle.std.specs.Prelude.{◌≡◌, min, slice_index_or, slice_set, IfOk};
+ghost use Rattle.std.specs.Prelude.{◌≡◌, min, slice_set, IfOk, Some};
+ghost use Rattle.std.specs.Option.{unwrap_or};
+ghost use Rattle.eqc_build.specs.Building.{reference_of};
 ghost use Rattle.eqc_build.specs.Steps.{IsChoice, chosen_for};
 ghost use Rattle.eqc_literals.specs.Literals.{TellEqual};
 
-use crate::literal::{NONE, literal_of};
+use crate::literal::literal_of;
 use eqc_build::Steps;
 use eqc_graph::Literal;
 use std::alloc::{AllocError, Global};
@@ -16,27 +18,27 @@ fn chosen_for(chosen: &[u32], step: u32) -> u32
     chosen.get(step as usize).copied().unwrap_or(step)
 }
 
-/// The lowest step that came with a literal, of those before and this one, which is noted. It is
-/// this one where the literal is none.
-fn first_with(firsts: &mut Vec<u32>, literal: usize, step: u32) -> u32
-    ensures first { result ≡ min (slice_index_or firsts.old.items literal step) step }
-    ensures noted { firsts.new.items ≡ slice_set firsts.old.items literal result }
+/// The lowest step that came with a literal, of those before and this one, which is noted.
+fn first_with(firsts: &mut Vec<Option<u32>>, literal: Literal, step: u32) -> u32
+    ensures first { result ≡ min (unwrap_or (reference_of firsts.old.items literal) step) step }
+    ensures noted { firsts.new.items ≡ slice_set firsts.old.items literal (Some result) }
 {
-    let first = firsts.get(literal).copied().unwrap_or(step).min(step);
+    let literal = literal as usize;
+    let before = firsts.get(literal).copied().flatten();
+    let first = before.unwrap_or(step).min(step);
     if literal >= firsts.len() {
         return first;
     }
-    firsts[literal] = first;
+    firsts[literal] = Some(first);
     first
 }
 
 /// A number above all literals of steps.
-fn above_all(literals: &[Option<Literal>]) -> u32 {
+fn above_all(literals: &[Option<Literal>]) -> usize {
     let mut above = 0;
     for literal in literals {
-        let literal = literal.unwrap_or(NONE);
-        if literal != NONE && literal >= above {
-            above = literal + 1;
+        if let Some(literal) = literal {
+            above = above.max(*literal as usize + 1);
         }
     }
     above
@@ -56,11 +58,14 @@ pub fn first_of_literal(
     requires tell { TellEqual steps.now.pair literals.now }
     ensures { IfOk result (λ more. IsChoice steps.now.pair more.items) }
 {
-    let mut firsts = vec![in alloc; NONE; above_all(literals) as usize]?;
+    let mut firsts = vec![in alloc; None; above_all(literals)]?;
     let mut more = Vec::with_capacity(alloc, steps.len() as usize)?;
     for k in 0..steps.len() {
         let step = chosen_for(chosen, k);
-        let literal = literal_of(literals, step) as usize;
+        let Some(literal) = literal_of(literals, step) else {
+            more.push(step)?;
+            continue;
+        };
         more.push(first_with(&mut firsts, literal, step))?;
     }
     Ok(more)

@@ -20,7 +20,7 @@ mod owned;
 
 pub use choice::first_of_literal;
 pub use entering::{CHARACTERS, entered};
-pub use literal::{NONE, entry, literal_of};
+pub use literal::literal_of;
 pub use marks::{mark, outputs_of_one_literal};
 pub use moving::moved;
 pub use owned::Owned;

@@ -6,7 +6,7 @@ ghost use Rattle.eqc_compare.specs.Alike.{AreEqual};
 ghost use Rattle.eqc_compare.specs.Comparing.{difference_at};
 ghost use Rattle.eqc_literals.specs.Literals.{HaveOneLiteral, KeepsMarks, TellEqual};
 
-use crate::literal::{NONE, literal_of};
+use crate::literal::literal_of;
 use eqc_build::Steps;
 use eqc_compare::{Alike, is_marked};
 use eqc_graph::Literal;
@@ -17,7 +17,7 @@ fn have_one_literal(literals: &[Option<Literal>], steps: [u32; 2]) -> bool
     ensures { IsTrue result → HaveOneLiteral literals.now (slice_index steps 0) (slice_index steps 1) }
 {
     let literal = literal_of(literals, steps[0]);
-    literal != NONE && literal == literal_of(literals, steps[1])
+    literal.is_some() && literal == literal_of(literals, steps[1])
 }
 
 /// Whether an output is marked, or its two steps have one literal.

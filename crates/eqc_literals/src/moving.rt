@@ -1,26 +1,20 @@
 //! The literals of steps in a graph into which theirs was copied.
-ghost use Rattle.std.specs.Prelude.{List, IfOk, IfSome};
+ghost use Rattle.std.specs.Prelude.{ℕ, Bool, List, IfOk, IfSome};
 ghost use Rattle.eqc_graph.specs.declared.node.Node.{Node};
 ghost use Rattle.eqc_sweep.specs.Copying.{AreCopies};
 ghost use Rattle.eqc_sweep.specs.Sweeping.{HasValue};
 ghost use Rattle.eqc_pair.specs.PairOf.{PairOf};
-ghost use Rattle.eqc_build.specs.Steps.{value_at};
 ghost use Rattle.eqc_gates.specs.Entering.{AreLiterals};
 
-use crate::literal::entry;
 use eqc_graph::Literal;
 use eqc_sweep::copied;
 use std::alloc::{AllocError, Global};
 
-/// The literal of a step in another graph, where it has one there.
-fn moved_one(
-    literals: &[Option<Literal>],
-    table: &[Option<Literal>],
-    step: usize,
-) -> Option<Literal>
-    ensures { (p : PairOf) (old new : List Node) → AreLiterals p old literals.now → AreCopies old new table.now → IfSome result (λ l. HasValue new l (λ a. value_at p a step)) }
+/// What a literal becomes in another graph, where it has a copy there.
+fn moved_one(literal: Option<Literal>, table: &[Option<Literal>]) -> Option<Literal>
+    ensures { (old new : List Node) (f : (ℕ → Bool) → Bool) → AreCopies old new table.now → IfSome literal (λ l. HasValue old l f) → IfSome result (λ l. HasValue new l f) }
 {
-    let literal = entry(literals, step)?;
+    let literal = literal?;
     copied(table, literal)
 }
 
@@ -36,8 +30,8 @@ pub fn moved(
     ensures { (p : PairOf) (old new : List Node) → AreLiterals p old literals.now → AreCopies old new table.now → IfOk result (λ all. AreLiterals p new all.items) }
 {
     let mut all = Vec::with_capacity(alloc, literals.len())?;
-    for step in 0..literals.len() {
-        all.push(moved_one(literals, table, step))?;
+    for literal in literals {
+        all.push(moved_one(*literal, table))?;
     }
     Ok(all)
 }

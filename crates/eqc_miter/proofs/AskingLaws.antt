@@ -1,12 +1,12 @@
 -- Outputs that are asked for, as they are gone through in their order, and those that lack a
 -- literal.
-use Rattle.std.proofs.Common.{◌≡◌, ◌∙◌, inl, inr, ℕ, ◌+◌, ◌<◌, List, [], ◌∷◌, ◌++◌, length, take}
-use Rattle.std.proofs.Common.{get_or, refl, sym, arith, Option, All}
+use Rattle.std.proofs.Common.{◌≡◌, inl, inr, ℕ, ◌+◌, ◌<◌, List, [], ◌∷◌, ◌++◌, length, take}
+use Rattle.std.proofs.Common.{get_or, refl, sym, arith, Option, None, All}
 use Rattle.std.proofs.lemmas.List.{take_more, map-append}
 use Rattle.std.proofs.lemmas.List.Elements.{All-push, All-weaker, Contains-push}
 use Rattle.std.proofs.lemmas.List.Elements.{Contains-append_left}
+use Rattle.eqc_build.specs.Building.{reference_of}
 use Rattle.eqc_build.specs.Steps.{StepsOf, assumed_root, roots_of}
-use Rattle.eqc_literals.specs.Literals.{literal_of}
 use Rattle.eqc_miter.specs.declared.asking.Question.{Question}
 use Rattle.eqc_miter.specs.Asking.{AreSomeOf, IsAskedIn, LacksLiteral, outputs_asked}
 
@@ -54,36 +54,35 @@ some_asked outputs k questions q inside same are =
 -- ---- none is passed over that has its literals
 
 -- the assumption's step lacks one, or one of the output's two
-pub lacks_root : (g : StepsOf) (literals : List (Option ℕ)) (root l o : ℕ)
-    → root ∷ [] ≡ assumed_root g → l ≡ literal_of literals root → l ≡ 4294967295
-    → LacksLiteral g literals o
-lacks_root g literals root l o are is none = record {
+pub lacks_root : (g : StepsOf) (literals : List (Option ℕ)) (root o : ℕ)
+    → root ∷ [] ≡ assumed_root g → None ≡ reference_of literals root → LacksLiteral g literals o
+lacks_root g literals root o are none = record {
   step = root;
   needed =
       rw (← are) (Contains-push (roots_of g o) root);
-  none = sym is ∙ none;
+  none = sym none;
 }
 
-pub lacks_first : (g : StepsOf) (literals : List (Option ℕ)) (roots : List ℕ) (o l : ℕ)
-    → roots ≡ roots_of g o → l ≡ literal_of literals (get_or roots 0 0) → l ≡ 4294967295
+pub lacks_first : (g : StepsOf) (literals : List (Option ℕ)) (roots : List ℕ) (o : ℕ)
+    → roots ≡ roots_of g o → None ≡ reference_of literals (get_or roots 0 0)
     → LacksLiteral g literals o
 unfolding roots_of
-lacks_first g literals roots o l are is none = record {
+lacks_first g literals roots o are none = record {
   step = get_or roots 0 0;
   needed = rw are (Contains-append_left (roots_of g o) (assumed_root g) (get_or (roots_of g o) 0 0)
       (0, omega arith, refl));
-  none = sym is ∙ none;
+  none = sym none;
 }
 
-pub lacks_second : (g : StepsOf) (literals : List (Option ℕ)) (roots : List ℕ) (o l : ℕ)
-    → roots ≡ roots_of g o → l ≡ literal_of literals (get_or roots 1 0) → l ≡ 4294967295
+pub lacks_second : (g : StepsOf) (literals : List (Option ℕ)) (roots : List ℕ) (o : ℕ)
+    → roots ≡ roots_of g o → None ≡ reference_of literals (get_or roots 1 0)
     → LacksLiteral g literals o
 unfolding roots_of
-lacks_second g literals roots o l are is none = record {
+lacks_second g literals roots o are none = record {
   step = get_or roots 1 0;
   needed = rw are (Contains-append_left (roots_of g o) (assumed_root g) (get_or (roots_of g o) 1 0)
       (1, omega arith, refl));
-  none = sym is ∙ none;
+  none = sym none;
 }
 
 -- one that lacks one is passed over

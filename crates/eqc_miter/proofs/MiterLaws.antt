@@ -1,8 +1,8 @@
 -- What is found of literals that are true where an output differs, or where the assumption allows
 -- the inputs' values.
-use Rattle.std.proofs.Common.{◌≡◌, ◌≢◌, ℕ, ◌<◌, Bool, true, false, true≢false, ◌&&◌, List, [], ◌∷◌}
+use Rattle.std.proofs.Common.{◌≡◌, ℕ, ◌<◌, Bool, true, false, true≢false, ◌&&◌, List, [], ◌∷◌}
 use Rattle.std.proofs.Common.{length, find, get_or, is_none, refl, sym, ◌∙◌, ap, ap₂, Option, Some}
-use Rattle.std.proofs.Common.{None, Vec, Global, subst, arith, All, ◌++◌}
+use Rattle.std.proofs.Common.{None, IfSome, Vec, Global, subst, arith, All, ◌++◌}
 use Rattle.std.proofs.lemmas.List.Elements.{All-push, All-weaker}
 use Rattle.eqc_tree.specs.Assigned.{assigned, assignments}
 use Rattle.eqc_netlist.specs.Graph.{value_of}
@@ -14,19 +14,19 @@ use Rattle.eqc_witness.specs.declared.witness.Witness.TheVariants.{Unknown}
 use Rattle.eqc_witness.specs.Witnesses.{IsFoundOf, IsWitness, is_true_under}
 use Rattle.eqc_witness.proofs.WitnessLemmas.{found_as}
 use Rattle.eqc_pair.specs.PairOf.{PairOf, IsPair, first_variables, second_variables, second_signals}
+use Rattle.eqc_build.specs.Building.{reference_of}
 use Rattle.eqc_build.specs.Steps.{StepsOf, inputs_under, roots_of, assumed_root, value_at}
 use Rattle.eqc_build.proofs.PairLaws.{pair_matched}
 use Rattle.eqc_build.proofs.StepLaws.{first_made, second_made, root_first, root_second}
 use Rattle.eqc_compare.specs.Verdict.{is_different, is_allowed, differs_under}
 use Rattle.eqc_compare.specs.Comparing.{netlist_of, assumption_of, values_differ_at, differs_at}
-use Rattle.eqc_literals.specs.Literals.{IsInside, literal_of}
+use Rattle.eqc_literals.specs.Literals.{IsInside}
 use Rattle.eqc_miter.specs.declared.asking.Question.{Question}
 use Rattle.eqc_miter.specs.declared.asking.Answer.{Answer}
 use Rattle.eqc_miter.specs.Asking.{IsAnswerOf, IsQuestionOf, IsWitnessAt, SaysAllowed}
 use Rattle.eqc_miter.specs.Asking.{SaysDifferent, TellsVacuous}
 use Rattle.eqc_compare.proofs.AllowingLaws.{allowed_is, allowed_without, root_says, not_without}
 use Rattle.eqc_compare.proofs.DifferenceLaws.{differs_is}
-use Rattle.eqc_literals.proofs.LiteralLaws.{has_value}
 use Rattle.eqc_compare.proofs.VerdictLemmas.{some_allowed}
 
 differ_is : (x y : Bool) → differ x y ≡ is_different x y
@@ -39,26 +39,24 @@ differ_is false y = refl
 values_differ : (g : StepsOf) (nodes : List Node) (literals : List (Option ℕ)) (roots : List ℕ)
     (o x y : ℕ) (a : ℕ → Bool) →
     IsInside g nodes literals → o < length g.pair.first.outputs → roots ≡ roots_of g o
-    → x ≡ literal_of literals (get_or roots 0 0) → y ≡ literal_of literals (get_or roots 1 0)
-    → x ≢ 4294967295 → y ≢ 4294967295
+    → reference_of literals (get_or roots 0 0) ≡ Some x
+    → reference_of literals (get_or roots 1 0) ≡ Some y
     → differ (literal_value nodes a x) (literal_value nodes a y) ≡ values_differ_at g.pair o a
 unfolding values_differ_at
-values_differ g nodes literals roots o x y a is inside are ex ey some other =
+values_differ g nodes literals roots o x y a is inside are some other =
     let p = g.pair in
     let s = get_or p.first.output_signals o 0 in
     let t = get_or (second_signals p) o 0 in
     let first : literal_value nodes a x ≡ value_of g.pair.first
     (inputs_under (first_variables g.pair) a) (get_or g.pair.first.output_signals o 0) =
-    ap (literal_value nodes a) ex
-    ∙ ((has_value p nodes literals (get_or roots 0 0) is.values (λ none. some (ex ∙ none))).value a
+    (is.values.each (get_or roots 0 0) x some).value a
     ∙ (ap (value_at p a) (ap (λ r. get_or r 0 0) are ∙ root_first g o)
-    ∙ first_made g a s is.lawful (is.lawful.lawful.first_flat.outputs_within o inside))) in
+    ∙ first_made g a s is.lawful (is.lawful.lawful.first_flat.outputs_within o inside)) in
     let second : literal_value nodes a y ≡ value_of g.pair.second
     (inputs_under (second_variables g.pair) a) (get_or (second_signals g.pair) o 0) =
-    ap (literal_value nodes a) ey
-    ∙ ((has_value p nodes literals (get_or roots 1 0) is.values (λ none. other (ey ∙ none))).value a
+    (is.values.each (get_or roots 1 0) y other).value a
     ∙ (ap (value_at p a) (ap (λ r. get_or r 1 0) are ∙ root_second g o)
-    ∙ second_made g a t is.lawful ((pair_matched p is.lawful.lawful).within o inside))) in
+    ∙ second_made g a t is.lawful ((pair_matched p is.lawful.lawful).within o inside)) in
     ap₂ differ first second
     ∙ differ_is (value_of p.first (inputs_under (first_variables p) a) s)
     (value_of p.second (inputs_under (second_variables p) a) t)
@@ -67,35 +65,35 @@ values_differ g nodes literals roots o x y a is inside are ex ey some other =
 pub says_different : (g : StepsOf) (nodes between new : List Node) (literals : List (Option ℕ))
     (roots : List ℕ) (o x y allowed d l : ℕ) →
     IsInside g nodes literals → o < length g.pair.first.outputs → roots ≡ roots_of g o
-    → x ≡ literal_of literals (get_or roots 0 0) → y ≡ literal_of literals (get_or roots 1 0)
-    → x ≢ 4294967295 → y ≢ 4294967295
+    → reference_of literals (get_or roots 0 0) ≡ Some x
+    → reference_of literals (get_or roots 1 0) ≡ Some y
     → SaysAllowed g.pair nodes allowed → Extends nodes between
     → HasValue between d (λ a. differ (literal_value nodes a x) (literal_value nodes a y))
     → HasValue new l (λ a. literal_value between a allowed && literal_value between a d)
     → SaysDifferent g.pair new o l
 unfolding differs_at
-says_different g nodes between new literals roots o x y allowed d l is inside are ex ey some other
-    says more has both = record {
+says_different g nodes between new literals roots o x y allowed d l is inside are some other says
+    more has both = record {
       within = both.within;
       value = λ a.
           both.value a
           ∙ ap₂ (λ (b c : Bool). b && c)
           (more.same allowed a says.within ∙ says.value a)
-          (has.value a ∙ values_differ g nodes literals roots o x y a is inside are ex ey some other);
+          (has.value a ∙ values_differ g nodes literals roots o x y a is inside are some other);
     }
 
--- the literal of the assumption's step
-pub says_allowed : (g : StepsOf) (nodes : List Node) (literals : List (Option ℕ)) (root l : ℕ)
-    → IsInside g nodes literals →
-    root ∷ [] ≡ assumed_root g → l ≡ literal_of literals root → l ≢ 4294967295
-    → SaysAllowed g.pair nodes l
-says_allowed g nodes literals root l is are e some =
-    let has = has_value g.pair nodes literals root is.values (λ none. some (e ∙ none)) in
-    rw e (record {
+-- the literal of the assumption's step, if it has one
+pub says_allowed : (g : StepsOf) (nodes : List Node) (literals : List (Option ℕ)) (root : ℕ)
+    (x : Option ℕ) → IsInside g nodes literals → root ∷ [] ≡ assumed_root g
+    → x ≡ reference_of literals root → IfSome x (SaysAllowed g.pair nodes)
+says_allowed g nodes literals root (Some l) is are some =
+    let has = is.values.each root l (sym some) in
+    record {
       within = has.within;
       value = λ a. has.value a
           ∙ root_says g root a is.lawful are;
-    })
+    }
+says_allowed g nodes literals root None is are none = record {}
 
 -- without an assumption each is allowed
 pub says_always : (g : StepsOf) (nodes : List Node) (l : ℕ) → [] ≡ assumed_root g

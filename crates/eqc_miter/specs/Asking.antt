@@ -1,15 +1,15 @@
 -- What is asked of a pair in the graph of its steps, and what is found of it, without a diagram.
 use Rattle.std.specs.Prelude.{◌≡◌, ◌⊎◌, ℕ, ◌<◌, Bool, List, [], ◌∷◌, length, map}
-use Rattle.std.specs.Prelude.{slice_index_or, Contains, Option, ⊤}
+use Rattle.std.specs.Prelude.{slice_index_or, Contains, Option, None, ⊤}
 use Rattle.eqc_graph.specs.declared.node.Node.{Node}
 use Rattle.eqc_sweep.specs.Sweeping.{HasValue}
 use Rattle.eqc_witness.specs.declared.witness.Witness.{Witness}
 use Rattle.eqc_witness.specs.Witnesses.{IsFoundOf}
 use Rattle.eqc_pair.specs.PairOf.{PairOf}
+use Rattle.eqc_build.specs.Building.{reference_of}
 use Rattle.eqc_build.specs.Steps.{StepsOf, goals_of}
 use Rattle.eqc_compare.specs.Verdict.{allows_none, differs_under}
 use Rattle.eqc_compare.specs.Comparing.{netlist_of, assumption_of, allowed_at, differs_at}
-use Rattle.eqc_literals.specs.Literals.{literal_of}
 use Rattle.eqc_miter.specs.declared.asking.Question.{Question}
 use Rattle.eqc_miter.specs.declared.asking.Answer.{Answer}
 
@@ -50,7 +50,7 @@ outputs_asked questions = map (λ (q : Question). q.output) questions
 pub record LacksLiteral (g : StepsOf) (literals : List (Option ℕ)) (output : ℕ) : Type 0 where
   pub step : ℕ
   pub needed : Contains (goals_of g output) step
-  pub none : literal_of literals step ≡ 4294967295
+  pub none : reference_of literals step ≡ None
 
 -- an output is asked for, or lacks a literal
 abbrev pub IsAskedIn : StepsOf → List (Option ℕ) → List Question → ℕ → Type 0

@@ -7,7 +7,7 @@ ghost use Rattle.eqc_miter.specs.Asking.{LacksLiteral, SaysAllowed, SaysDifferen
 
 use eqc_build::Steps;
 use eqc_graph::Literal;
-use eqc_literals::{NONE, literal_of};
+use eqc_literals::literal_of;
 use eqc_sweep::{Comparison, Sweep};
 use std::alloc::{AllocError, Global};
 
@@ -26,11 +26,7 @@ pub fn allowed_literal(
     let Some(root) = steps.assumed_root() else {
         return Some(sweep.constant(true));
     };
-    let literal = literal_of(literals, root);
-    if literal == NONE {
-        return None;
-    }
-    Some(literal)
+    literal_of(literals, root)
 }
 
 #[tactic(auto, using(crate::proofs::AskingLaws::lacks_first, crate::proofs::AskingLaws::lacks_second))]
@@ -53,11 +49,12 @@ pub(crate) fn difference_literal(
         return Ok(None);
     };
     let roots = steps.roots(output);
-    let x = literal_of(literals, roots[0]);
-    let y = literal_of(literals, roots[1]);
-    if x == NONE || y == NONE {
+    let Some(x) = literal_of(literals, roots[0]) else {
         return Ok(None);
-    }
+    };
+    let Some(y) = literal_of(literals, roots[1]) else {
+        return Ok(None);
+    };
     let differ = sweep.xor(x, y)?;
     let literal = sweep.and(allowed, differ)?;
     Ok(Some(literal))

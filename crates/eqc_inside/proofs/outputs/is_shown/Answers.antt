@@ -7,8 +7,8 @@ pub returns : goal.returns
 returns c _ =
     let nodes = c.args.sweep.now in
     asked_equal c.args.steps.now nodes c.args.literals.now c.roots-roots.result c.args.twins.place
-    c.literal_of-x.result c.literal_of-y.result
-    c.requires.inside c.requires.output c.roots-roots.ensures c.literal_of-x.ensures
-    c.literal_of-y.ensures c.if-x.false c.if-y.false
+    c.in-Some.x c.in-Some-literal_of.y
+    c.requires.inside c.requires.output c.roots-roots.ensures (sym c.in-Some.ensures)
+    (sym c.in-Some-literal_of.ensures)
     (λ a. ap (literal_value nodes a) c.if-x-twins.false ∙ (c.requires.equal.equal.value a
     ∙ ap (literal_value nodes a) (sym c.if-y-twins.false)))

@@ -7,5 +7,4 @@ returns-in_default-clause-allowed c = says_always c.args.steps.now c.args.sweep.
 
 pub returns-clause-allowed : goal.returns-clause-allowed
 returns-clause-allowed c = says_allowed c.args.steps.now c.args.sweep.now c.args.literals.now
-    c.in-Some.root c.literal_of-literal.result c.requires c.in-Some.ensures
-    c.literal_of-literal.ensures c.if-literal.false
+    c.in-Some.root c.literal_of.result c.requires c.in-Some.ensures c.literal_of.ensures
