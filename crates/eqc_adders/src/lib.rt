@@ -27,5 +27,5 @@ mod sums;
 mod support;
 
 pub use inner::{Lookalikes, is_made_alike};
-pub use sums::{Limits, Sums, has_adders};
+pub use sums::{Attempts, Limits, Sums, has_adders};
 pub use support::{ROOM, Support, differing, of_one};

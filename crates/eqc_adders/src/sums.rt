@@ -14,6 +14,16 @@ use eqc_sums::Reduction;
 use eqc_sweep::{Effort, Sweep};
 use std::alloc::{AllocError, Global};
 
+/// Which attempts there are to show a pair of words equal.
+#[derive(Clone, Copy, PartialEq, Eq, Debug)]
+pub enum Attempts {
+    /// The first alone, which takes least.
+    First,
+    /// None that takes long, and mostly fails where the others did.
+    Brief,
+    All,
+}
+
 /// What may be done to find adders, and for a pair of words.
 #[derive(Clone, Copy, PartialEq, Eq, Debug)]
 pub struct Limits {
@@ -28,8 +38,8 @@ pub struct Limits {
     /// The work of all questions about nodes that are made, as for an `Effort`, and of the looks at
     /// nodes when steps are chosen.
     pub work: u64,
-    /// Whether attempts are left out that take longest, and mostly fail where the others did.
-    pub is_brief: bool,
+    /// Which attempts there are.
+    pub attempts: Attempts,
 }
 
 /// What there may be for each hundred thousand conflicts.
@@ -39,7 +49,7 @@ const USUAL: Limits = Limits {
     question: 3_000,
     conflicts: 100_000,
     work: 200_000_000,
-    is_brief: false,
+    attempts: Attempts::All,
 };
 
 impl Limits {
@@ -90,8 +100,8 @@ const LARGE: u32 = 16_000;
 /// An attempt that may well be in vain has this part of the looks.
 const BRIEF: u64 = 4;
 
-/// And the first one has this part of a pair's conflicts: what it shows it mostly shows without a
-/// question.
+/// The first one has this part of a pair's conflicts, and so have those in which one word is added up
+/// as the other one is: what they show they mostly show with few questions.
 const FIRST: u64 = 16;
 
 /// The work of a look at whether a sum or a carry is among the nodes.
@@ -292,29 +302,56 @@ impl Sums {
         ensures equal { IfOk result (λ is. IsTrue is → AreEqualWords self.new.reduction.sweep ps.now qs.now) }
     {
         self.looks = limits.work.saturating_mul(LOOKS);
-        let conflicts = limits.conflicts / FIRST;
-        if self.attempt(
-            ps,
-            qs,
-            (FEW, false),
-            Limits {
-                conflicts,
-                ..limits
-            },
-        )? {
+        let brief = Limits {
+            conflicts: limits.conflicts / FIRST,
+            ..limits
+        };
+        if self.attempt(ps, qs, (FEW, false), brief)? {
             return Ok(true);
+        }
+        if limits.attempts == Attempts::First {
+            return Ok(false);
         }
         if self.is_of_several(ps) && self.attempt_briefly(ps, qs, limits)? {
             return Ok(true);
         }
         self.take_kind((LEAST, true), limits)?;
-        if self.shown(ps, qs, Way::AsSecond, limits)? || self.shown(ps, qs, Way::AsFirst, limits)? {
+        if self.shown_as_one(ps, qs, brief)? {
             return Ok(true);
         }
-        if limits.is_brief {
-            return Ok(false);
+        Ok(limits.attempts == Attempts::All && self.shown_at_last(ps, qs, limits)?)
+    }
+
+    #[tactic(auto, using(eqc_sums::proofs::GateLemmas::extends_both))]
+    /// Whether two words are shown equal where one is added up as the other one is.
+    fn shown_as_one(
+        &mut self,
+        ps: &[Literal],
+        qs: &[Literal],
+        limits: Limits,
+    ) -> Result<bool, AllocError>
+        ensures extends { Extends self.old.reduction.sweep self.new.reduction.sweep }
+        ensures equal { IfOk result (λ is. IsTrue is → AreEqualWords self.new.reduction.sweep ps.now qs.now) }
+    {
+        if self.shown(ps, qs, Way::AsSecond, limits)? {
+            return Ok(true);
         }
-        if self.attempt(ps, qs, (FEW, true), limits)? {
+        self.shown(ps, qs, Way::AsFirst, limits)
+    }
+
+    #[tactic(auto, using(eqc_sums::proofs::GateLemmas::extends_both))]
+    /// Whether two words are shown equal where one is added up as the other one is, or it is asked for
+    /// many carries: that takes longest, and mostly fails where other attempts did.
+    fn shown_at_last(
+        &mut self,
+        ps: &[Literal],
+        qs: &[Literal],
+        limits: Limits,
+    ) -> Result<bool, AllocError>
+        ensures extends { Extends self.old.reduction.sweep self.new.reduction.sweep }
+        ensures equal { IfOk result (λ is. IsTrue is → AreEqualWords self.new.reduction.sweep ps.now qs.now) }
+    {
+        if self.shown_as_one(ps, qs, limits)? || self.attempt(ps, qs, (FEW, true), limits)? {
             return Ok(true);
         }
         if self.attempt(ps, qs, (MORE, true), limits)? {

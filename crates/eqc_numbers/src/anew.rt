@@ -10,7 +10,7 @@ ghost use Rattle.eqc_sums.specs.Adding.{AreEqualWords};
 use crate::chains::{Shape, copy_shaped};
 use crate::compared::{Found, Search, TURNS};
 use crate::cuts::are_equal_over_cuts;
-use crate::shown::{Look, Words, are_shown_equal, are_shown_in, copies, copy_both};
+use crate::shown::{Depth, Words, are_shown_equal, are_shown_in, copies, copy_both};
 use eqc_graph::{Graph, Literal};
 use eqc_products::{Made, Reference, References, is_sum_of_products, make_array, make_references};
 use eqc_sweep::{Effort, Sweep};
@@ -70,8 +70,8 @@ fn are_added_up_by(words: &Words<'_>, graph: &Graph, third: &[Literal]) -> Resul
         ..*words
     };
     Ok(
-        are_shown_in(&first, graph, 0, Look::Array)?
-            && are_shown_in(&second, graph, 0, Look::Array)?,
+        are_shown_in(&first, graph, 0, Depth::Array)?
+            && are_shown_in(&second, graph, 0, Depth::Array)?,
     )
 }
 
@@ -92,7 +92,7 @@ fn are_added_up_briefly(words: &Words<'_>, graph: &Graph) -> Result<bool, AllocE
     let Some(array) = make_array(alloc, graph, firsts, seconds)? else {
         return Ok(false);
     };
-    if are_shown_in(words, graph, 0, Look::Brief)? {
+    if are_shown_in(words, graph, 0, Depth::Brief)? {
         return Ok(true);
     }
     let mut sweep = Sweep::new(alloc, Effort::none())?;
@@ -111,15 +111,16 @@ fn are_added_up_briefly(words: &Words<'_>, graph: &Graph) -> Result<bool, AllocE
     are_added_up_by(&copied, sweep.graph(), &third)
 }
 
-/// Whether two words are shown equal so, or by a brief look with the second one first: mostly that
-/// shows squares, of which no array is made.
-fn are_added_up_soon(words: &Words<'_>, graph: &Graph) -> Result<bool, AllocError>
+/// Whether two words of a graph that are the same sum of products are shown equal by what they add
+/// up to: by a brief look, as an array does that is made anew, or by a brief look with the second one
+/// first, which shows most squares, of which no array is made. Fails where memory is refused.
+pub fn are_equal_by_arrays(words: &Words<'_>, graph: &Graph) -> Result<bool, AllocError>
     ensures { IfOk result (λ is. IsTrue is → AreEqualWords graph.now words.now.firsts.now words.now.seconds.now) }
 {
     Ok(
         are_added_up_briefly(words, graph)?
             || is_sum_of_products(words.alloc, graph, words.firsts)?
-                && are_shown_in(words, graph, 1, Look::Brief)?,
+                && are_shown_in(words, graph, 1, Depth::Brief)?,
     )
 }
 
@@ -127,7 +128,7 @@ fn are_added_up_soon(words: &Words<'_>, graph: &Graph) -> Result<bool, AllocErro
 fn are_added_up(words: &Words<'_>, graph: &Graph) -> Result<bool, AllocError>
     ensures { IfOk result (λ is. IsTrue is → AreEqualWords graph.now words.now.firsts.now words.now.seconds.now) }
 {
-    Ok(are_added_up_soon(words, graph)? || are_shown_equal(words, graph, TURNS)?)
+    Ok(are_equal_by_arrays(words, graph)? || are_shown_equal(words, graph, TURNS)?)
 }
 
 #[tactic(auto, using(crate::proofs::ShownLaws::equal_along))]
@@ -203,18 +204,12 @@ fn are_equal_in(
         firsts: words.seconds,
         ..*words
     };
+    if are_shown_in(words, graph, 0, Depth::Glance)? {
+        return Ok(true);
+    }
     let one = found_equal(words, graph, &anew.first, first)?;
     let other = found_equal(&turned, graph, &anew.second, second)?;
     are_equal_by_way(words, graph, one, other)
-}
-
-/// For which words netlists are made anew.
-#[derive(Clone, Copy, PartialEq, Eq)]
-pub(crate) enum Aim {
-    /// Of one of which a mapping took adders apart.
-    TakenApart,
-    /// Of one that has its adders, but of other gates.
-    Rewritten,
 }
 
 /// Makes a word of a netlist that is made anew in a graph, and answers whether such a part of its
@@ -229,11 +224,13 @@ fn enter_new(alloc: Global, sweep: &mut Sweep, made: &Made) -> Result<(Vec<u32>,
 }
 
 #[tactic(auto, using(crate::proofs::ShownLaws::words_back))]
-/// The same as `are_equal_anew` where the words are sums of products of inputs.
-pub(crate) fn are_equal_by_way_of_references(
+/// Whether two words of a graph are shown equal by way of these netlists that are made anew for
+/// them, where one of the words isn't as it was made: a mapping took adders apart, or rewrote the
+/// gates.
+fn are_equal_by_references(
     words: &Words<'_>,
     graph: &Graph,
-    aim: Aim,
+    anew: &References,
 ) -> Result<bool, AllocError>
     ensures { IfOk result (λ is. IsTrue is → AreEqualWords graph.now words.now.firsts.now words.now.seconds.now) }
 {
@@ -243,13 +240,6 @@ pub(crate) fn are_equal_by_way_of_references(
         seconds,
         ..
     } = *words;
-    let Some(anew) = make_references(alloc, graph, firsts, seconds)? else {
-        return Ok(false);
-    };
-    let are_apart = is_taken_apart(&anew.first) || is_taken_apart(&anew.second);
-    if are_apart != (aim == Aim::TakenApart) {
-        return Ok(false);
-    }
     let mut sweep = Sweep::new(alloc, Effort::none())?;
     let table = copy_both(words, graph, &mut sweep, Shape::Plain)?;
     let ps = copies(alloc, &table, firsts)?;
@@ -259,7 +249,8 @@ pub(crate) fn are_equal_by_way_of_references(
     }
     let (first, is_first_new) = enter_new(alloc, &mut sweep, &anew.first.made)?;
     let (second, is_second_new) = enter_new(alloc, &mut sweep, &anew.second.made)?;
-    if aim == Aim::Rewritten && !is_first_new && !is_second_new {
+    let are_new = is_first_new || is_second_new;
+    if !are_new && !is_taken_apart(&anew.first) && !is_taken_apart(&anew.second) {
         return Ok(false);
     }
     let copied = Words {
@@ -267,32 +258,31 @@ pub(crate) fn are_equal_by_way_of_references(
         seconds: &qs,
         ..*words
     };
-    are_equal_in(&copied, sweep.graph(), &anew, &first, &second)
+    are_equal_in(&copied, sweep.graph(), anew, &first, &second)
+}
+
+/// The same as `are_equal_anew` where the words are sums of products of inputs. Words as they were
+/// made mostly are shown equal at a glance.
+pub(crate) fn are_equal_by_way_of_references(
+    words: &Words<'_>,
+    graph: &Graph,
+) -> Result<bool, AllocError>
+    ensures { IfOk result (λ is. IsTrue is → AreEqualWords graph.now words.now.firsts.now words.now.seconds.now) }
+{
+    let Some(anew) = make_references(words.alloc, graph, words.firsts, words.seconds)? else {
+        return Ok(false);
+    };
+    are_equal_by_references(words, graph, &anew)
 }
 
 /// Whether two words of a graph are shown equal by way of netlists that are made anew for the sum
-/// of products that both are, where one of the words looks as if a mapping had taken its adders
-/// apart. Searches compare a word with what is made anew in the architecture that is most like it,
-/// and what is made anew is added up within the words' limits. Factors may be inputs, or nodes that
-/// both words are made of. Fails where memory is refused.
+/// of products that both are: at a glance, or where one of the words looks as if a mapping had taken
+/// its adders apart, or a flow had rewritten its gates. Searches compare a word with what is made
+/// anew in the architecture that is most like it, and what is made anew is added up within the words'
+/// limits. Factors may be inputs, or nodes that both words are made of. Fails where memory is
+/// refused.
 pub fn are_equal_anew(words: &Words<'_>, graph: &Graph) -> Result<bool, AllocError>
     ensures { IfOk result (λ is. IsTrue is → AreEqualWords graph.now words.now.firsts.now words.now.seconds.now) }
 {
-    Ok(
-        are_equal_by_way_of_references(words, graph, Aim::TakenApart)?
-            || are_equal_over_cuts(words, graph)?,
-    )
-}
-
-/// Whether two words of a graph that are the same sum of products are shown equal by what they add
-/// up to: by way of netlists that are made anew in the architectures that they have, where a flow
-/// rewrote their gates, by a brief look, or as an array does that is made anew. Fails where memory is
-/// refused.
-pub fn are_equal_by_arrays(words: &Words<'_>, graph: &Graph) -> Result<bool, AllocError>
-    ensures { IfOk result (λ is. IsTrue is → AreEqualWords graph.now words.now.firsts.now words.now.seconds.now) }
-{
-    Ok(
-        are_equal_by_way_of_references(words, graph, Aim::Rewritten)?
-            || are_added_up_soon(words, graph)?,
-    )
+    Ok(are_equal_by_way_of_references(words, graph)? || are_equal_over_cuts(words, graph)?)
 }

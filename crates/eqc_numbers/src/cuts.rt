@@ -7,7 +7,7 @@ ghost use Rattle.eqc_sweep.specs.Copying.{AreCopies};
 ghost use Rattle.eqc_sums.specs.Adding.{AreEqualWords};
 ghost use Rattle.eqc_numbers.specs.Cuts.{IsCut, StandsFor};
 
-use crate::anew::{Aim, are_equal_by_way_of_references};
+use crate::anew::are_equal_by_way_of_references;
 use crate::chains::{Shape, copy_shaped};
 use crate::shown::{CHEAP, Words, copies, copy_both};
 use eqc_graph::{Graph, Literal, Node, node_of};
@@ -158,7 +158,7 @@ fn are_equal_in_copy(
         seconds: &qs,
         ..*words
     };
-    are_equal_by_way_of_references(&copied, &cut, Aim::TakenApart)
+    are_equal_by_way_of_references(&copied, &cut)
 }
 
 /// Copies what two words are made of into a graph in which such gates are one as many others are

@@ -6,7 +6,7 @@ ghost use Rattle.eqc_sums.specs.Adding.{AreEqualWords};
 ghost use Rattle.eqc_numbers.specs.Copies.{AreCopiesOf};
 
 use crate::chains::{Shape, copy_shaped};
-use eqc_adders::{Limits, Sums};
+use eqc_adders::{Attempts, Limits, Sums};
 use eqc_graph::{Graph, Literal};
 use eqc_sweep::{Effort, Sweep, copied};
 use std::alloc::{AllocError, Global};
@@ -27,7 +27,9 @@ pub(crate) const CHEAP: u64 = 30;
 
 /// How far it is gone to show words equal in a turn.
 #[derive(Clone, Copy, PartialEq, Eq)]
-pub(crate) enum Look {
+pub(crate) enum Depth {
+    /// Words as they were made mostly take no more.
+    Glance,
     /// What succeeds mostly takes no more.
     Brief,
     /// By way of an array.
@@ -35,26 +37,50 @@ pub(crate) enum Look {
     Long,
 }
 
-impl Look {
-    /// It has this part of the work for the steps.
-    fn part(self) -> u64
-        ensures { 0 < result }
-    {
+impl Depth {
+    /// What may be done to find adders, of what may be done at most.
+    fn finding(self, limits: Limits) -> Limits {
         match self {
-            Look::Brief => 8,
-            Look::Array => 2,
-            Look::Long => 1,
+            Depth::Glance => Limits {
+                question: limits.question / 8,
+                work: limits.work / 16,
+                ..limits
+            },
+            Depth::Brief => Limits {
+                question: limits.question / 8,
+                ..limits
+            },
+            Depth::Array => Limits {
+                question: limits.question / 2,
+                ..limits
+            },
+            Depth::Long => limits,
         }
     }
 
-    /// And this part of the steps, of which there are as many as nodes.
-    fn part_of_steps(self) -> u32
-        ensures { 0 < result }
-    {
+    /// What may be done to add words up.
+    fn adding(self, limits: Limits) -> Limits {
         match self {
-            Look::Brief => 3,
-            Look::Array => 2,
-            Look::Long => 1,
+            Depth::Glance => Limits {
+                steps: limits.steps / 3,
+                conflicts: limits.conflicts / 8,
+                work: limits.work / 8,
+                attempts: Attempts::First,
+                ..limits
+            },
+            Depth::Brief => Limits {
+                steps: limits.steps / 3,
+                work: limits.work / 8,
+                attempts: Attempts::Brief,
+                ..limits
+            },
+            Depth::Array => Limits {
+                steps: limits.steps / 2,
+                work: limits.work / 2,
+                attempts: Attempts::Brief,
+                ..limits
+            },
+            Depth::Long => limits,
         }
     }
 }
@@ -125,13 +151,13 @@ fn copy_words(
 }
 
 /// Whether two words are shown equal in a graph that has copies of nodes, with a look's part of the
-/// work for the steps. It stands apart for its proof's sake: where a graph is let go in each exit
+/// work. It stands apart for its proof's sake: where a graph is let go in each exit
 /// that takes many times longer.
 fn show_copies(
     words: &Words<'_>,
     table: &[Option<Literal>],
     sums: &mut Sums,
-    look: Look,
+    depth: Depth,
 ) -> Result<bool, AllocError>
     ensures { (old : List Node) → AreCopies old sums.old.reduction.sweep table.now → IfOk result (λ is. IsTrue is → AreEqualWords old words.now.firsts.now words.now.seconds.now) }
 {
@@ -146,21 +172,11 @@ fn show_copies(
     if ps.len() != firsts.len() || qs.len() != seconds.len() {
         return Ok(false);
     }
-    let steps = limits.steps.min(sums.sweep().graph().len()) / look.part_of_steps();
+    let steps = limits.steps.min(sums.sweep().graph().len());
     let limits = Limits { steps, ..limits };
-    sums.find_adders(limits)?;
+    sums.find_adders(depth.finding(limits))?;
     sums.find_carries()?;
-    let work = limits.work / look.part();
-    let is_brief = look != Look::Long;
-    sums.show(
-        &ps,
-        &qs,
-        Limits {
-            work,
-            is_brief,
-            ..limits
-        },
-    )
+    sums.show(&ps, &qs, depth.adding(limits))
 }
 
 /// Whether two words are shown equal by a look in one of the turns, which are counted from 0. Fails
@@ -169,14 +185,14 @@ pub(crate) fn are_shown_in(
     words: &Words<'_>,
     graph: &Graph,
     turn: u32,
-    look: Look,
+    depth: Depth,
 ) -> Result<bool, AllocError>
     ensures { IfOk result (λ is. IsTrue is → AreEqualWords graph.now words.now.firsts.now words.now.seconds.now) }
 {
     let mut sweep = Sweep::new(words.alloc, Effort::of(CHEAP, words.limits.work))?;
     let table = copy_words(words, graph, &mut sweep, turn)?;
     let mut sums = Sums::new(words.alloc, sweep);
-    show_copies(words, &table, &mut sums, look)
+    show_copies(words, &table, &mut sums, depth)
 }
 
 /// Whether two words of a graph are shown equal within their limits by what they add up to, in a
@@ -187,7 +203,7 @@ pub fn are_shown_equal(words: &Words<'_>, graph: &Graph, turns: u32) -> Result<b
     ensures { IfOk result (λ is. IsTrue is → AreEqualWords graph.now words.now.firsts.now words.now.seconds.now) }
 {
     'turns: for turn in 0..turns {
-        if are_shown_in(words, graph, turn, Look::Long)? {
+        if are_shown_in(words, graph, turn, Depth::Long)? {
             return Ok(true);
         }
     }

@@ -5,7 +5,7 @@ use Rattle.eqc_sweep.specs.Copying.{AreCopies}
 use Rattle.eqc_sums.specs.Adding.{AreEqualWords}
 use Rattle.eqc_sums.proofs.GateLemmas.{extends_both}
 use Rattle.eqc_numbers.proofs.ShownLaws.{words_back}
-use Rattle.eqc_numbers.proofs.anew.are_equal_by_way_of_references.Goals as goal
+use Rattle.eqc_numbers.proofs.anew.are_equal_by_references.Goals as goal
 
 pub returns : goal.returns
 returns c =
