@@ -3,8 +3,8 @@
 mod finding;
 
 use crate::support::{ROOM, Support, differing, joined, of_one};
-use eqc_graph::{Graph, Literal, Node, node_of};
 use eqc_sweep::Sweep;
+use eqc_xag::{Graph, Literal, Node, node_of};
 use std::alloc::{AllocError, Global};
 
 /// Three literals, their sum and their carry.

@@ -6,7 +6,7 @@ ghost use Rattle.std.specs.Prelude.{◌≡◌};
 use crate::adders::Adders;
 use crate::moves::Move;
 use crate::place::{Place, minus, towards};
-use eqc_graph::{Literal, node_of};
+use eqc_xag::{Literal, node_of};
 use eqc_sums::Reduction;
 use eqc_sweep::Sweep;
 use std::alloc::{AllocError, Global};

@@ -1,7 +1,7 @@
 //! Choices of some of a column's literals, one after the other. Nothing is believed of it.
 
 use crate::column::{Item, Likely};
-use eqc_graph::Literal;
+use eqc_xag::Literal;
 
 /// So many literals are chosen at most.
 pub(crate) const MOST_CHOSEN: usize = 5;

@@ -1,7 +1,7 @@
 //! The literals of a column, and which of them are likely to be added up. Nothing is believed of
 //! it.
 
-use eqc_graph::Literal;
+use eqc_xag::Literal;
 use std::alloc::{AllocError, Global};
 
 /// A literal that a column has, by a number of its own: one that comes later has a larger one.

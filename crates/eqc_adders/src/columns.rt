@@ -11,7 +11,7 @@ use crate::adders::Adders;
 use crate::chosen::{Chosen, MOST_CHOSEN};
 use crate::column::{Column, Item, Likely};
 use crate::place::minus;
-use eqc_graph::{Graph, Literal, Node, node_of};
+use eqc_xag::{Graph, Literal, Node, node_of};
 use eqc_sums::{Form, Reduction};
 use eqc_sweep::{Sweep, below};
 use std::alloc::{AllocError, Global};

@@ -7,9 +7,9 @@
 
 use crate::adders::{Adders, Block, is_degenerate};
 use crate::frames::{Frame, Frames};
-use eqc_graph::{Graph, Literal, Node, is_negated, negated_if, node_of};
 use eqc_sums::MOST_LITERALS;
 use eqc_sweep::{Sweep, below};
+use eqc_xag::{Graph, Literal, Node, is_negated, negated_if, node_of};
 use std::alloc::{AllocError, Global};
 
 /// Two words that look alike, the lowest literal first, where false stands in both in columns of

@@ -1,8 +1,8 @@
 //! Steps as values: what is chosen by one that is believed in nothing, and done.
 ghost use Rattle.eqc_sums.specs.Forms.{Keeps};
 
-use eqc_graph::Literal;
 use eqc_sums::Reduction;
+use eqc_xag::Literal;
 use std::alloc::AllocError;
 
 /// A step of a reduction.

@@ -3,9 +3,9 @@
 
 use crate::adders::{Adders, Block};
 use crate::moves::Move;
-use eqc_graph::{Literal, node_of};
 use eqc_sums::Form;
 use eqc_sweep::Sweep;
+use eqc_xag::{Literal, node_of};
 
 /// How many gates deep polynomials go.
 const DEPTH: u32 = 24;

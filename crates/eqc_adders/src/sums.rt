@@ -1,6 +1,6 @@
 //! Words that are shown equal by sums.
 ghost use Rattle.std.specs.Prelude.{◌≡◌, IfOk, IsTrue};
-ghost use Rattle.eqc_graph.specs.Graph.{Extends};
+ghost use Rattle.eqc_xag.specs.Graph.{Extends};
 ghost use Rattle.eqc_sums.specs.Forms.{Keeps};
 ghost use Rattle.eqc_sums.specs.Adding.{AreEqualWords};
 
@@ -9,7 +9,7 @@ use crate::choice::Choice;
 use crate::columns::Columns;
 use crate::inner::{Lookalikes, inner_words};
 use crate::moves::{Move, apply};
-use eqc_graph::Literal;
+use eqc_xag::Literal;
 use eqc_sums::Reduction;
 use eqc_sweep::{Effort, Sweep};
 use std::alloc::{AllocError, Global};

@@ -11,9 +11,9 @@ use Rattle.std.proofs.Math.Nat.{min-eq_left, min-eq_right}
 use Rattle.std.proofs.Math.Seq.{get_or-append_seam}
 use Rattle.std.proofs.lemmas.Bool.{cases_eq, cases_lt, eqb-true, eq-eqb, lt-ltb, le-ltb}
 use Rattle.eqc_netlist.specs.Graph.{FlatOf, IsFlat, FollowsDrivers, value_of}
-use Rattle.eqc_class.specs.Structure.{structure_of}
-use Rattle.eqc_class.proofs.ValueLaws.{equal_values}
-use Rattle.eqc_class.specs.Classes.{ClassesOf, AreClasses, HaveOneValueEach, TellStructures}
+use Rattle.eqc_strash.specs.Structure.{structure_of}
+use Rattle.eqc_strash.proofs.ValueLaws.{equal_values}
+use Rattle.eqc_strash.specs.Classes.{ClassesOf, AreClasses, HaveOneValueEach, TellStructures}
 use Rattle.eqc_pair.specs.PairOf.{PairOf, IsPair, first_variables, second_variables, second_signals}
 use Rattle.eqc_build.specs.Steps.{IsChoice, assumed_start, chosen_for, inputs_under, value_at}
 use Rattle.eqc_compare.specs.Verdict.{is_different}

@@ -3,7 +3,7 @@
 -- one needs to be made.
 use Rattle.std.specs.Prelude.{◌≡◌, ◌↔◌, ℕ, ◌-◌, ◌<◌, ◌≤◌, true, false, Bool, List, length, ltb}
 use Rattle.std.specs.Prelude.{slice_index, None, if◌then◌else◌}
-use Rattle.eqc_class.specs.Structure.{Structure, structure_of}
+use Rattle.eqc_strash.specs.Structure.{Structure, structure_of}
 use Rattle.eqc_pair.specs.PairOf.{PairOf, first_variables, second_variables, second_signals}
 use Rattle.eqc_compare.specs.Comparing.{difference_at, told_at, is_chosen_at}
 use Rattle.eqc_build.specs.Steps.{IsChoice, assumed_start, chosen_for}

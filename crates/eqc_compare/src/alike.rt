@@ -2,13 +2,13 @@
 //! it computes, and of steps of one structure one needs to be made.
 ghost use Rattle.std.specs.Prelude.{◌≡◌, ℕ, ◌+◌, ◌<◌, ◌≤◌, ◌++◌, [], None, true, false, IsTrue, length, map, slice_index, IfOk, OnOk};
 ghost use Rattle.eqc_build.specs.Turns.{is_marked};
-ghost use Rattle.eqc_class.specs.Classes.{AreClasses};
+ghost use Rattle.eqc_strash.specs.Classes.{AreClasses};
 ghost use Rattle.eqc_pair.specs.PairOf.{first_variables, second_variables};
 ghost use Rattle.eqc_compare.specs.Comparing.{told_at, is_chosen_at};
 ghost use Rattle.eqc_compare.specs.Alike.{AreEqual, AreFirst, AreSettled, IsKnown, TellAlike, TellShared};
 
-use eqc_class::{SignalClasses, classes};
 use eqc_pair::{Pair, recall_laws};
+use eqc_strash::{SignalClasses, classes};
 use std::alloc::{AllocError, Global};
 
 /// What is known of a pair.

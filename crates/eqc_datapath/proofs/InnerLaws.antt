@@ -5,8 +5,8 @@ use Rattle.std.proofs.Common.{replicate}
 use Rattle.std.proofs.lemmas.Bool.{cases_eq, cases_lt}
 use Rattle.std.proofs.lemmas.List.{get_or-set_same, get_or-set_other, get_or-replicate, get_or_past}
 use Rattle.std.proofs.lemmas.List.{length-replicate}
-use Rattle.eqc_graph.specs.declared.node.Node.{Node}
-use Rattle.eqc_graph.specs.Graph.{IsWithin, literal_value}
+use Rattle.eqc_xag.specs.declared.node.Node.{Node}
+use Rattle.eqc_xag.specs.Graph.{IsWithin, literal_value}
 use Rattle.eqc_sweep.specs.Finding.{AreEqual}
 use Rattle.eqc_sweep.specs.Sweeping.{HasValue}
 use Rattle.eqc_pair.specs.PairOf.{PairOf}

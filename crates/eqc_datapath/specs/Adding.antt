@@ -1,6 +1,6 @@
 -- What is asked of words of outputs.
 use Rattle.std.specs.Prelude.{◌≡◌, ℕ, ◌<◌, ◌≤◌, List, length, slice_index, Option, None}
-use Rattle.eqc_graph.specs.declared.node.Node.{Node}
+use Rattle.eqc_xag.specs.declared.node.Node.{Node}
 use Rattle.eqc_sweep.specs.Finding.{AreEqual}
 use Rattle.eqc_build.specs.Steps.{StepsOf}
 use Rattle.eqc_compare.specs.Comparing.{difference_at}

@@ -18,7 +18,7 @@ use eqc_adders::{Limits, Sums};
 use eqc_build::Steps;
 use eqc_compare::{Alike, Progress, Stage};
 use eqc_gates::needed_within;
-use eqc_graph::Literal;
+use eqc_xag::Literal;
 use eqc_literals::{CHARACTERS, Owned, entered, literal_of, mark, moved};
 use eqc_numbers::{Shape, copy_shaped};
 use eqc_sweep::{Effort, Sweep};

@@ -8,8 +8,8 @@
 //! of outputs that are shown equal for each value of the few inputs that choose what a design does.
 ghost use Rattle.std.specs.Prelude.{◌≡◌, ℕ, ◌<◌, Bool, List, length, IfOk, IfSome, IsTrue};
 ghost use Rattle.std.specs.List.{All};
-ghost use Rattle.eqc_graph.specs.declared.node.Node.{Node};
-ghost use Rattle.eqc_graph.specs.Graph.{IsWithin};
+ghost use Rattle.eqc_xag.specs.declared.node.Node.{Node};
+ghost use Rattle.eqc_xag.specs.Graph.{IsWithin};
 ghost use Rattle.eqc_sweep.specs.Sweeping.{HasValue};
 ghost use Rattle.eqc_sweep.specs.Finding.{AreEqual};
 ghost use Rattle.eqc_sums.specs.Adding.{AreEqualWords};
@@ -24,7 +24,7 @@ use eqc_adders::Lookalikes;
 use eqc_build::Steps;
 use eqc_compare::{Progress, Stage};
 use eqc_gates::needed_within;
-use eqc_graph::{Graph, Literal, negated, node_of};
+use eqc_xag::{Graph, Literal, negated, node_of};
 use eqc_literals::{CHARACTERS, Owned, entered};
 use eqc_numbers::{
     Words, are_equal_anew, are_equal_by_arrays, are_equal_in_cases, are_shown_equal,

@@ -38,7 +38,7 @@ use crate::workers::{
     goes_on_alone, has_large_room, has_many_inputs, has_some_inputs, is_full,
 };
 use eqc_compare::{Alike, Progress, Stage, alike_or_nothing, known_outcome};
-use eqc_inside::{Conflicts, Inside, Kind, Look, Rounds, Searched, Span, Terms};
+use eqc_fraig::{Conflicts, Inside, Kind, Look, Rounds, Searched, Span, Terms};
 use eqc_report::{Options, Report, Undecided, found_report, note_seen};
 use eqc_tree::Stop;
 use std::sync::Wait;

@@ -1,6 +1,6 @@
 //! What decides a pair: the stages of a run, one after the other, and the calls that make diagrams
-//! alone. What makes a pair stands in `eqc_pair`, what a stage does in `eqc_compare`, `eqc_members`
-//! and `eqc_inside`, and what the answer is in `eqc_report`.
+//! alone. What makes a pair stands in `eqc_pair`, what a stage does in `eqc_compare`, `eqc_parallel`
+//! and `eqc_fraig`, and what the answer is in `eqc_report`.
 //!
 //! What the report has to be is said in `specs/Report.antt` and `specs/PairReport.antt` of
 //! `eqc_report`. Read the modules in this order:

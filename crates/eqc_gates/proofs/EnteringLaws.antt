@@ -5,9 +5,9 @@ use Rattle.std.proofs.Common.{sym, ◌∙◌, ap, inl, inr, arith}
 use Rattle.std.proofs.lemmas.Bool.{cases_eq, cases_lt, false≢true}
 use Rattle.std.proofs.lemmas.List.{take_more, map-append, get_or_push, get_or_append_left}
 use Rattle.std.proofs.lemmas.List.{get_or_past, length_push}
-use Rattle.eqc_graph.specs.declared.node.Node.{Node}
-use Rattle.eqc_graph.specs.Graph.{literal_value, IsWithin, Extends}
-use Rattle.eqc_graph.proofs.GraphLemmas.{extends_itself, extends_along}
+use Rattle.eqc_xag.specs.declared.node.Node.{Node}
+use Rattle.eqc_xag.specs.Graph.{literal_value, IsWithin, Extends}
+use Rattle.eqc_xag.proofs.GraphLemmas.{extends_itself, extends_along}
 use Rattle.eqc_sweep.specs.Sweeping.{HasValue}
 use Rattle.eqc_pair.specs.PairOf.{PairOf}
 use Rattle.eqc_build.specs.Building.{reference_of, AreReady}

@@ -10,9 +10,9 @@ use Rattle.std.proofs.lemmas.List.{get_or_append_left, get_or_at, length-map}
 use Rattle.std.proofs.lemmas.List.Folds.{list_all-append, list_any_more}
 use Rattle.eqc_netlist.specs.Cover.{allows, row_matches}
 use Rattle.eqc_netlist.proofs.RowLemmas.{row_over}
-use Rattle.eqc_graph.specs.declared.node.Node.{Node}
-use Rattle.eqc_graph.specs.Graph.{literal_value, IsWithin, Extends, differ}
-use Rattle.eqc_graph.proofs.GraphLemmas.{extends_itself, extends_along}
+use Rattle.eqc_xag.specs.declared.node.Node.{Node}
+use Rattle.eqc_xag.specs.Graph.{literal_value, IsWithin, Extends, differ}
+use Rattle.eqc_xag.proofs.GraphLemmas.{extends_itself, extends_along}
 use Rattle.eqc_sweep.specs.Sweeping.{HasValue}
 use Rattle.eqc_gates.specs.Literals.{AreWithin, AreAskedFor}
 use Rattle.eqc_cover.specs.Table.{table_value, IsCofactor, DependsOnOpen}

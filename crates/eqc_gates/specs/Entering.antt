@@ -1,7 +1,7 @@
 -- The literals of the steps of a pair, and which steps get one.
 use Rattle.std.specs.Prelude.{◌≡◌, ℕ, ◌<◌, Bool, true, false, List, length, Option, Some, IsSome}
 use Rattle.std.specs.Prelude.{slice_index, slice_index_or}
-use Rattle.eqc_graph.specs.declared.node.Node.{Node}
+use Rattle.eqc_xag.specs.declared.node.Node.{Node}
 use Rattle.eqc_sweep.specs.Sweeping.{HasValue}
 use Rattle.eqc_pair.specs.PairOf.{PairOf}
 use Rattle.eqc_build.specs.Building.{reference_of}

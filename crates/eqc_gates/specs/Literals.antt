@@ -2,8 +2,8 @@
 use Rattle.std.specs.Prelude.{◌≡◌, ℕ, ◌<◌, Bool, List, length, map, slice_index}
 use Rattle.std.specs.List.{list_all}
 use Rattle.eqc_netlist.specs.Cover.{row_matches}
-use Rattle.eqc_graph.specs.declared.node.Node.{Node}
-use Rattle.eqc_graph.specs.Graph.{literal_value, IsWithin}
+use Rattle.eqc_xag.specs.declared.node.Node.{Node}
+use Rattle.eqc_xag.specs.Graph.{literal_value, IsWithin}
 
 -- each of these literals is one of the graph
 pub record AreWithin (nodes : List Node) (literals : List ℕ) : Type 0 where

@@ -2,16 +2,16 @@
 ghost use Rattle.std.specs.Prelude.{◌≡◌, ℕ, Bool, not, length, map, IfOk};
 ghost use Rattle.std.specs.List.{list_any};
 ghost use Rattle.eqc_netlist.specs.Cover.{row_matches, cover_value};
-ghost use Rattle.eqc_graph.specs.Graph.{literal_value, Extends};
+ghost use Rattle.eqc_xag.specs.Graph.{literal_value, Extends};
 ghost use Rattle.eqc_sweep.specs.Sweeping.{HasValue};
 ghost use Rattle.eqc_gates.specs.Literals.{AreWithin, AreAskedFor};
 
 use crate::expansion::table_literal;
 use crate::gate::all_of;
 use eqc_cover::table::{MOST_COLUMNS, cover_table};
-use eqc_graph::{Literal, negated};
 use eqc_netlist::{Rows, is_on_set};
 use eqc_sweep::Sweep;
+use eqc_xag::{Literal, negated};
 use std::alloc::{AllocError, Global};
 
 /// The literals of the columns that have to be true where a row matches: a column or its

@@ -1,15 +1,15 @@
 //! The literal of a truth table: gates by its cofactors where there are any, else Shannon's
 //! expansion.
 ghost use Rattle.std.specs.Prelude.{ℕ, ◌≤◌, Bool, length, map, IfOk};
-ghost use Rattle.eqc_graph.specs.Graph.{literal_value, Extends};
+ghost use Rattle.eqc_xag.specs.Graph.{literal_value, Extends};
 ghost use Rattle.eqc_cover.specs.Table.{table_value, DependsOnOpen};
 ghost use Rattle.eqc_sweep.specs.Sweeping.{HasValue};
 ghost use Rattle.eqc_gates.specs.Literals.{AreWithin};
 
 use crate::gate::multiplexer;
 use eqc_cover::table::{MOST_COLUMNS, best_column, cofactor, is_constant};
-use eqc_graph::Literal;
 use eqc_sweep::Sweep;
+use eqc_xag::Literal;
 use std::alloc::AllocError;
 
 /// The literal of a table that depends on no other columns than those that are open. `columns` are

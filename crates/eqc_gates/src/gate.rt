@@ -1,12 +1,12 @@
 //! Literals that are made of literals.
 ghost use Rattle.std.specs.Prelude.{◌≡◌, ℕ, Bool, ◌||◌, IfOk, if◌then◌else◌};
 ghost use Rattle.std.specs.List.{list_all};
-ghost use Rattle.eqc_graph.specs.Graph.{literal_value, IsWithin, Extends};
+ghost use Rattle.eqc_xag.specs.Graph.{literal_value, IsWithin, Extends};
 ghost use Rattle.eqc_sweep.specs.Sweeping.{HasValue};
 ghost use Rattle.eqc_gates.specs.Literals.{AreWithin};
 
-use eqc_graph::{Literal, negated};
 use eqc_sweep::Sweep;
+use eqc_xag::{Literal, negated};
 use std::alloc::AllocError;
 
 /// The literal that is true where one of two is. Fails where memory is refused.

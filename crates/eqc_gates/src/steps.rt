@@ -1,6 +1,6 @@
 //! The literals of the steps of a pair, in the order of the steps.
 ghost use Rattle.std.specs.Prelude.{◌≡◌, ℕ, ◌<◌, true, None, Some, length, map, IfOk, IsSome};
-ghost use Rattle.eqc_graph.specs.Graph.{Extends};
+ghost use Rattle.eqc_xag.specs.Graph.{Extends};
 ghost use Rattle.eqc_sweep.specs.Sweeping.{HasValue};
 ghost use Rattle.eqc_build.specs.Building.{AreReady, reference_of};
 ghost use Rattle.eqc_build.specs.Steps.{steps_in, uses_of, value_at};
@@ -10,8 +10,8 @@ use crate::cover::cover_literal;
 use crate::expansion::table_literal;
 use eqc_build::{StepDriver, Steps, Uses};
 use eqc_cover::table::MOST_COLUMNS;
-use eqc_graph::Literal;
 use eqc_sweep::Sweep;
+use eqc_xag::Literal;
 use std::alloc::{AllocError, Global};
 
 /// The literal of a step that has one.

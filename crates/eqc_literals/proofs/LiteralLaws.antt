@@ -25,8 +25,8 @@ use Rattle.eqc_build.specs.Building.{reference_of}
 use Rattle.eqc_gates.specs.Entering.{AreLiterals}
 use Rattle.eqc_gates.proofs.EnteringLaws.{literals_stay}
 use Rattle.eqc_literals.specs.Literals.{HaveOneLiteral, IsInside, KeepsMarks, TellEqual}
-use Rattle.eqc_graph.specs.declared.node.Node.{Node}
-use Rattle.eqc_graph.specs.Graph.{literal_value, Extends}
+use Rattle.eqc_xag.specs.declared.node.Node.{Node}
+use Rattle.eqc_xag.specs.Graph.{literal_value, Extends}
 use Rattle.eqc_compare.proofs.AlikeLaws.{never_where}
 use Rattle.eqc_compare.proofs.DifferenceLaws.{none_is}
 

@@ -4,7 +4,7 @@ use Rattle.eqc_pair.specs.PairOf.{PairOf}
 use Rattle.eqc_build.specs.Building.{reference_of}
 use Rattle.eqc_build.specs.Steps.{StepsOf, AreSteps, steps_in, value_at}
 use Rattle.eqc_build.specs.Turns.{is_marked}
-use Rattle.eqc_graph.specs.declared.node.Node.{Node}
+use Rattle.eqc_xag.specs.declared.node.Node.{Node}
 use Rattle.eqc_gates.specs.Entering.{AreLiterals}
 
 -- two steps have one literal

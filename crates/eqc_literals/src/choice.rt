@@ -8,7 +8,7 @@ ghost use Rattle.eqc_literals.specs.Literals.{TellEqual};
 
 use crate::literal::literal_of;
 use eqc_build::Steps;
-use eqc_graph::Literal;
+use eqc_xag::Literal;
 use std::alloc::{AllocError, Global};
 
 /// The step that is chosen in place of one.

@@ -6,8 +6,8 @@ ghost use Rattle.eqc_literals.specs.Literals.{IsInside};
 use eqc_build::Steps;
 use eqc_compare::Progress;
 use eqc_gates::literals;
-use eqc_graph::Literal;
 use eqc_sweep::Sweep;
+use eqc_xag::Literal;
 use std::alloc::{AllocError, Global};
 
 /// So many characters of covers enter at most. A cover enters anew for each instance of its model,

@@ -2,7 +2,7 @@
 ghost use Rattle.std.specs.Prelude.{◌≡◌};
 ghost use Rattle.eqc_build.specs.Building.{reference_of};
 
-use eqc_graph::Literal;
+use eqc_xag::Literal;
 
 /// The literal of a step, if it has one. `literals` are those of steps, in the order of these; a
 /// step behind them has none.

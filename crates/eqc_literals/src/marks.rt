@@ -9,7 +9,7 @@ ghost use Rattle.eqc_literals.specs.Literals.{HaveOneLiteral, KeepsMarks, TellEq
 use crate::literal::literal_of;
 use eqc_build::Steps;
 use eqc_compare::{Alike, is_marked};
-use eqc_graph::Literal;
+use eqc_xag::Literal;
 use std::alloc::{AllocError, Global};
 
 /// Whether two steps have one literal.

@@ -1,13 +1,13 @@
 //! The literals of steps in a graph into which theirs was copied.
 ghost use Rattle.std.specs.Prelude.{ℕ, Bool, List, IfOk, IfSome};
-ghost use Rattle.eqc_graph.specs.declared.node.Node.{Node};
+ghost use Rattle.eqc_xag.specs.declared.node.Node.{Node};
 ghost use Rattle.eqc_sweep.specs.Copying.{AreCopies};
 ghost use Rattle.eqc_sweep.specs.Sweeping.{HasValue};
 ghost use Rattle.eqc_pair.specs.PairOf.{PairOf};
 ghost use Rattle.eqc_gates.specs.Entering.{AreLiterals};
 
-use eqc_graph::Literal;
 use eqc_sweep::copied;
+use eqc_xag::Literal;
 use std::alloc::{AllocError, Global};
 
 /// What a literal becomes in another graph, where it has a copy there.

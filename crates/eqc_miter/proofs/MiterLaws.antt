@@ -6,8 +6,8 @@ use Rattle.std.proofs.Common.{None, IfSome, Vec, Global, subst, arith, All, ◌+
 use Rattle.std.proofs.lemmas.List.Elements.{All-push, All-weaker}
 use Rattle.eqc_tree.specs.Assigned.{assigned, assignments}
 use Rattle.eqc_netlist.specs.Graph.{value_of}
-use Rattle.eqc_graph.specs.declared.node.Node.{Node}
-use Rattle.eqc_graph.specs.Graph.{differ, literal_value, Extends}
+use Rattle.eqc_xag.specs.declared.node.Node.{Node}
+use Rattle.eqc_xag.specs.Graph.{differ, literal_value, Extends}
 use Rattle.eqc_sweep.specs.Sweeping.{HasValue}
 use Rattle.eqc_witness.specs.declared.witness.Witness.{Witness}
 use Rattle.eqc_witness.specs.declared.witness.Witness.TheVariants.{Unknown}

@@ -1,7 +1,7 @@
 -- What is asked of a pair in the graph of its steps, and what is found of it, without a diagram.
 use Rattle.std.specs.Prelude.{◌≡◌, ◌⊎◌, ℕ, ◌<◌, Bool, List, [], ◌∷◌, length, map}
 use Rattle.std.specs.Prelude.{slice_index_or, Contains, Option, None, ⊤}
-use Rattle.eqc_graph.specs.declared.node.Node.{Node}
+use Rattle.eqc_xag.specs.declared.node.Node.{Node}
 use Rattle.eqc_sweep.specs.Sweeping.{HasValue}
 use Rattle.eqc_witness.specs.declared.witness.Witness.{Witness}
 use Rattle.eqc_witness.specs.Witnesses.{IsFoundOf}

@@ -6,10 +6,10 @@ ghost use Rattle.eqc_compare.specs.Comparing.{netlist_of, assumption_of};
 ghost use Rattle.eqc_miter.specs.Asking.{SaysAllowed, TellsVacuous};
 
 use crate::difference::seen_true;
-use eqc_graph::Literal;
 use eqc_pair::Pair;
 use eqc_sweep::Sweep;
 use eqc_witness::{Hints, Target, Witness, least_witness};
+use eqc_xag::Literal;
 use std::alloc::{AllocError, Global};
 
 /// Whether no assignment is allowed, by what is found of those that are: none where nothing is.

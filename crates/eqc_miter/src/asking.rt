@@ -3,7 +3,7 @@
 ghost use Rattle.std.specs.Prelude.{◌≡◌, ◌<◌, None, length, IfOk, IfSome};
 ghost use Rattle.std.specs.List.{All};
 ghost use Rattle.std.specs.Thread.{IsSync};
-ghost use Rattle.eqc_graph.specs.Graph.{Extends};
+ghost use Rattle.eqc_xag.specs.Graph.{Extends};
 ghost use Rattle.eqc_pair.specs.PairOf.{PairOf};
 ghost use Rattle.eqc_literals.specs.Literals.{IsInside};
 ghost use Rattle.eqc_miter.specs.Asking.{AreSomeOf, IsAnswerOf, IsAskedIn, IsQuestionOf, LacksLiteral, outputs_asked};
@@ -11,10 +11,10 @@ ghost use Rattle.eqc_miter.specs.Asking.{AreSomeOf, IsAnswerOf, IsAskedIn, IsQue
 use crate::conflicts::Conflicts;
 use crate::difference::{difference_literal, seen_true};
 use eqc_build::Steps;
-use eqc_graph::{Graph, Literal};
 use eqc_pair::Pair;
 use eqc_sweep::Sweep;
 use eqc_witness::{EARLIER, Hints, Target, Witness, least_witness};
+use eqc_xag::{Graph, Literal};
 use std::alloc::{AllocError, Global};
 use std::thread::{Threads, join};
 

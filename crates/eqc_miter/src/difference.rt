@@ -1,14 +1,14 @@
 //! The literals that are true where an output of a pair differs, and where its assumption allows
 //! the inputs' values.
 ghost use Rattle.std.specs.Prelude.{◌≡◌, ℕ, ◌<◌, None, length, IfOk, IfSome};
-ghost use Rattle.eqc_graph.specs.Graph.{Extends, IsWithin};
+ghost use Rattle.eqc_xag.specs.Graph.{Extends, IsWithin};
 ghost use Rattle.eqc_literals.specs.Literals.{IsInside};
 ghost use Rattle.eqc_miter.specs.Asking.{LacksLiteral, SaysAllowed, SaysDifferent};
 
 use eqc_build::Steps;
-use eqc_graph::Literal;
 use eqc_literals::literal_of;
 use eqc_sweep::{Comparison, Sweep};
+use eqc_xag::Literal;
 use std::alloc::{AllocError, Global};
 
 #[tactic(auto, using(crate::proofs::AskingLaws::lacks_root))]

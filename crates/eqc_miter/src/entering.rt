@@ -3,14 +3,14 @@ ghost use Rattle.std.specs.Prelude.{◌≡◌, ◌≤◌, List, length, IfOk};
 ghost use Rattle.eqc_compare.specs.Alike.{AreEqual};
 ghost use Rattle.eqc_build.specs.Steps.{StepsOf};
 ghost use Rattle.eqc_gates.specs.Entering.{AreClosed};
-ghost use Rattle.eqc_graph.specs.declared.node.Node.{Node};
+ghost use Rattle.eqc_xag.specs.declared.node.Node.{Node};
 ghost use Rattle.eqc_literals.specs.Literals.{IsInside};
 
 use crate::difference::difference_literal;
 use eqc_build::Steps;
 use eqc_compare::{is_marked, is_settled};
 use eqc_gates::{literals, needed, needed_within};
-use eqc_graph::Literal;
+use eqc_xag::Literal;
 use eqc_literals::CHARACTERS;
 use eqc_pair::Pair;
 use eqc_sweep::Sweep;

@@ -4,11 +4,11 @@ use Rattle.std.proofs.Common.{List, [], ◌∷◌, ◌++◌, length, get_or, ref
 use Rattle.std.proofs.Common.{◌⊎◌, ⊎_elim, inl, inr, arith, eqb-true, eqb}
 use Rattle.std.proofs.lemmas.Bool.{cases_eq, cases_lt, eqb-false}
 use Rattle.std.proofs.lemmas.List.{length-append, get_or_past}
-use Rattle.eqc_graph.specs.declared.node.Node.{Node}
-use Rattle.eqc_graph.specs.declared.node.Node.TheVariants.{Input}
-use Rattle.eqc_graph.specs.Graph.{literal_value, node_value, value_among, values_from, IsBelow}
-use Rattle.eqc_graph.specs.Graph.{IsGraph, Extends}
-use Rattle.eqc_graph.proofs.GraphLemmas.{node_same, value_of_zero, value_of_one}
+use Rattle.eqc_xag.specs.declared.node.Node.{Node}
+use Rattle.eqc_xag.specs.declared.node.Node.TheVariants.{Input}
+use Rattle.eqc_xag.specs.Graph.{literal_value, node_value, value_among, values_from, IsBelow}
+use Rattle.eqc_xag.specs.Graph.{IsGraph, Extends}
+use Rattle.eqc_xag.proofs.GraphLemmas.{node_same, value_of_zero, value_of_one}
 use Rattle.eqc_sweep.proofs.GateLemmas.{plain_value, complement_value}
 use Rattle.eqc_sweep.specs.Finding.{AreEqual}
 use Rattle.eqc_sums.specs.Adding.{AreEqualWords}

@@ -3,8 +3,8 @@ use Rattle.std.proofs.Common.{◌≡◌, ℕ, ◌+◌, ◌*◌, ◌/◌, ◌%◌
 use Rattle.std.proofs.Common.{◌&&◌, List, length, set, Option, Some, None, IfSome, refl, sym, ◌∙◌}
 use Rattle.std.proofs.Common.{ap, arith, eqb-true, eqb}
 use Rattle.std.proofs.lemmas.Bool.{eqb-false}
-use Rattle.eqc_graph.specs.declared.node.Node.{Node}
-use Rattle.eqc_graph.specs.Graph.{literal_value, IsWithin, Extends}
+use Rattle.eqc_xag.specs.declared.node.Node.{Node}
+use Rattle.eqc_xag.specs.Graph.{literal_value, IsWithin, Extends}
 use Rattle.eqc_sweep.specs.Sweeping.{HasValue}
 use Rattle.eqc_sweep.specs.Copying.{AreCopies, IsCopyOf}
 use Rattle.eqc_numbers.specs.Chains.{IsBoth, IsShared, IsSplit, IsPrefix}

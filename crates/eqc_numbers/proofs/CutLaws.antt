@@ -3,10 +3,10 @@ use Rattle.std.proofs.Common.{◌≡◌, ℕ, ◌+◌, ◌*◌, ◌/◌, ◌%◌
 use Rattle.std.proofs.Common.{◌&&◌, List, [], ◌∷◌, length, get_or, refl, sym, ◌∙◌, ap, subst}
 use Rattle.std.proofs.Common.{inl, inr, ◌⊎◌, ⊎_elim, arith}
 use Rattle.std.proofs.lemmas.Bool.{cases_eq, cases_lt}
-use Rattle.eqc_graph.specs.declared.node.Node.{Node}
-use Rattle.eqc_graph.specs.declared.node.Node.TheVariants.{Constant, Input, And, Xor}
-use Rattle.eqc_graph.specs.Graph.{literal_value, node_value, differ, IsBelow, IsGraph, Extends}
-use Rattle.eqc_graph.proofs.GraphLemmas.{value_of_zero}
+use Rattle.eqc_xag.specs.declared.node.Node.{Node}
+use Rattle.eqc_xag.specs.declared.node.Node.TheVariants.{Constant, Input, And, Xor}
+use Rattle.eqc_xag.specs.Graph.{literal_value, node_value, differ, IsBelow, IsGraph, Extends}
+use Rattle.eqc_xag.proofs.GraphLemmas.{value_of_zero}
 use Rattle.eqc_sums.specs.Adding.{AreEqualWords}
 use Rattle.eqc_numbers.specs.Cuts.{IsLift, IsCut, StandsFor}
 use Rattle.eqc_numbers.proofs.CasesLaws.{of_node, beyond}

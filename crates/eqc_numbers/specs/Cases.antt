@@ -1,7 +1,7 @@
 -- What is left of a graph where a variable has a value.
 use Rattle.std.specs.Prelude.{◌≡◌, ℕ, ◌/◌, ◌<◌, Bool, List}
-use Rattle.eqc_graph.specs.declared.node.Node.{Node}
-use Rattle.eqc_graph.specs.Graph.{literal_value}
+use Rattle.eqc_xag.specs.declared.node.Node.{Node}
+use Rattle.eqc_xag.specs.Graph.{literal_value}
 
 -- a literal has the same value in both graphs, where the variable has this one
 pub record IsCofactor (old : List Node) (variable : ℕ) (value : Bool) (new : List Node) : Type 0

@@ -1,7 +1,7 @@
 -- Conjunctions of a graph, and what spans of columns make of carries.
 use Rattle.std.specs.Prelude.{◌≡◌, ℕ, ◌*◌, ◌&&◌, Bool, not, List}
-use Rattle.eqc_graph.specs.declared.node.Node.{Node}
-use Rattle.eqc_graph.specs.Graph.{literal_value}
+use Rattle.eqc_xag.specs.declared.node.Node.{Node}
+use Rattle.eqc_xag.specs.Graph.{literal_value}
 
 -- l is the conjunction of x and y under each assignment
 pub record IsBoth (nodes : List Node) (l x y : ℕ) : Type 0 where

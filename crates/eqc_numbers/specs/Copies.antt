@@ -1,6 +1,6 @@
 -- Copies of literals in another graph.
 use Rattle.std.specs.Prelude.{ℕ, ◌<◌, List, length, slice_index}
-use Rattle.eqc_graph.specs.declared.node.Node.{Node}
+use Rattle.eqc_xag.specs.declared.node.Node.{Node}
 use Rattle.eqc_sweep.specs.Copying.{IsCopyOf}
 
 -- literals of the new graph have the values of the first ones of these of the old one

@@ -1,7 +1,7 @@
 -- A graph in which some nodes are inputs of their own.
 use Rattle.std.specs.Prelude.{◌≡◌, ℕ, ◌+◌, ◌*◌, ◌/◌, ◌<◌, Bool, List}
-use Rattle.eqc_graph.specs.declared.node.Node.{Node}
-use Rattle.eqc_graph.specs.Graph.{literal_value, node_value, IsBelow}
+use Rattle.eqc_xag.specs.declared.node.Node.{Node}
+use Rattle.eqc_xag.specs.Graph.{literal_value, node_value, IsBelow}
 
 -- b gives inputs the values that a gives them, and input 2^30 + k the value of node k
 pub record IsLift (old : List Node) (a b : ℕ → Bool) : Type 0 where

@@ -4,14 +4,14 @@
 //! made anew in the architecture that it came from shares most of what it is made of, so that
 //! searches find the two equal; and what is made anew can be added up.
 ghost use Rattle.std.specs.Prelude.{◌≡◌, IfOk, IfSome, IsTrue};
-ghost use Rattle.eqc_graph.specs.Graph.{Extends};
+ghost use Rattle.eqc_xag.specs.Graph.{Extends};
 ghost use Rattle.eqc_sums.specs.Adding.{AreEqualWords};
 
 use crate::chains::{Shape, copy_shaped};
 use crate::compared::{Found, Search, TURNS};
 use crate::cuts::are_equal_over_cuts;
 use crate::shown::{Depth, Words, are_shown_equal, are_shown_in, copies, copy_both};
-use eqc_graph::{Graph, Literal};
+use eqc_xag::{Graph, Literal};
 use eqc_products::{Made, Reference, References, is_sum_of_products, make_array, make_references};
 use eqc_sweep::{Effort, Sweep};
 use std::alloc::{AllocError, Global};

@@ -7,7 +7,7 @@ use crate::anew::are_equal_anew;
 use crate::cofactor::{Control, cofactor, control_of};
 use crate::compared::{Found, Search, TURNS};
 use crate::shown::{Words, are_shown_equal};
-use eqc_graph::Graph;
+use eqc_xag::Graph;
 use std::alloc::{AllocError, Global};
 
 /// So many inputs may choose, one below the other.

@@ -6,16 +6,16 @@
 //! (p2 and (g1 or (p1 and c))). So each carry comes to one of single columns, as in a chain of
 //! adders. All is said of complements, as a graph has conjunctions: of "less", u and not (b and c).
 ghost use Rattle.std.specs.Prelude.{◌≡◌, ℕ, ◌*◌, ◌/◌, ◌<◌, ◌&&◌, not, Bool, List, length, IfOk, IfSome};
-ghost use Rattle.eqc_graph.specs.declared.node.Node.{Node};
-ghost use Rattle.eqc_graph.specs.Graph.{literal_value, IsWithin, Extends};
+ghost use Rattle.eqc_xag.specs.declared.node.Node.{Node};
+ghost use Rattle.eqc_xag.specs.Graph.{literal_value, IsWithin, Extends};
 ghost use Rattle.eqc_sweep.specs.Sweeping.{HasValue};
 ghost use Rattle.eqc_sweep.specs.Copying.{AreCopies, IsCopyOf, IsCopyOfNode};
 ghost use Rattle.eqc_numbers.specs.Chains.{IsBoth, IsShared, IsSplit, IsPrefix};
 
 use crate::leaves::{Leaves, make_left};
 use crate::marks::mark;
-use eqc_graph::{Graph, Literal, Node, is_negated, negated, node_of};
 use eqc_sweep::{Sweep, below, copied, no_copies};
+use eqc_xag::{Graph, Literal, Node, is_negated, negated, node_of};
 use std::alloc::{AllocError, Global};
 
 /// In what shape a graph is copied.

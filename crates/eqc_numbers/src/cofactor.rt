@@ -1,12 +1,12 @@
 //! What is left of a graph where an input has one value.
 ghost use Rattle.std.specs.Prelude.{◌≡◌, ℕ, ◌<◌, Bool, List, IfOk};
-ghost use Rattle.eqc_graph.specs.declared.node.Node.{Node};
-ghost use Rattle.eqc_graph.specs.Graph.{literal_value, node_value, IsBelow, IsGraph};
+ghost use Rattle.eqc_xag.specs.declared.node.Node.{Node};
+ghost use Rattle.eqc_xag.specs.Graph.{literal_value, node_value, IsBelow, IsGraph};
 ghost use Rattle.eqc_numbers.specs.Cases.{IsCofactor};
 
 use crate::marks::mark;
-use eqc_graph::{Graph, Literal, Node, is_negated, node_of};
 use eqc_sweep::below;
+use eqc_xag::{Graph, Literal, Node, is_negated, node_of};
 use std::alloc::{AllocError, Global};
 
 /// An input that chooses leaves at most so many quarters of a graph, for both its values together.

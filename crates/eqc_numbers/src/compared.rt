@@ -1,13 +1,13 @@
 //! Two words of a graph, and what searches find of them.
 ghost use Rattle.std.specs.Prelude.{◌≡◌, List, IfOk, IsTrue};
-ghost use Rattle.eqc_graph.specs.declared.node.Node.{Node};
+ghost use Rattle.eqc_xag.specs.declared.node.Node.{Node};
 ghost use Rattle.eqc_sweep.specs.Copying.{AreCopies};
 ghost use Rattle.eqc_sums.specs.Adding.{AreEqualWords};
 
 use crate::chains::Shape;
 use crate::shown::{CHEAP, Words, copies, copy_both};
-use eqc_graph::{Graph, Literal, Node, node_of};
 use eqc_sweep::{Comparison, Effort, Sweep};
+use eqc_xag::{Graph, Literal, Node, node_of};
 use std::alloc::{AllocError, Global};
 
 /// The conflicts of all questions about two words, before it is looked at what they add up to, and

@@ -1,8 +1,8 @@
 //! Words that are equal whatever values nodes have that both are made of: the bits of a factor, say,
 //! that a design chooses or adds up first.
 ghost use Rattle.std.specs.Prelude.{◌≡◌, ℕ, ◌<◌, List, IfOk, IsTrue};
-ghost use Rattle.eqc_graph.specs.declared.node.Node.{Node};
-ghost use Rattle.eqc_graph.specs.Graph.{IsBelow};
+ghost use Rattle.eqc_xag.specs.declared.node.Node.{Node};
+ghost use Rattle.eqc_xag.specs.Graph.{IsBelow};
 ghost use Rattle.eqc_sweep.specs.Copying.{AreCopies};
 ghost use Rattle.eqc_sums.specs.Adding.{AreEqualWords};
 ghost use Rattle.eqc_numbers.specs.Cuts.{IsCut, StandsFor};
@@ -10,7 +10,7 @@ ghost use Rattle.eqc_numbers.specs.Cuts.{IsCut, StandsFor};
 use crate::anew::are_equal_by_way_of_references;
 use crate::chains::{Shape, copy_shaped};
 use crate::shown::{CHEAP, Words, copies, copy_both};
-use eqc_graph::{Graph, Literal, Node, node_of};
+use eqc_xag::{Graph, Literal, Node, node_of};
 use eqc_products::is_sum_of_products;
 use eqc_sweep::{Effort, Sweep, below};
 use std::alloc::{AllocError, Global};

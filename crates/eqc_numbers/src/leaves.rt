@@ -1,11 +1,11 @@
 //! Exclusive ors in which something cancels out, as what a square adds up twice: they are made of
 //! what is left before they are made as they are, so that these are found equal to those, below
 //! which there is less.
-ghost use Rattle.eqc_graph.specs.Graph.{Extends};
+ghost use Rattle.eqc_xag.specs.Graph.{Extends};
 
 use eqc_adders::{ROOM, Support, differing, of_one};
-use eqc_graph::{Graph, Literal, Node, node_of};
 use eqc_sweep::Sweep;
+use eqc_xag::{Graph, Literal, Node, node_of};
 use std::alloc::{AllocError, Global};
 
 /// The nodes of which each node of a graph is the exclusive or, itself where these are many or it

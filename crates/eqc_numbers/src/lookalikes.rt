@@ -4,7 +4,7 @@
 use crate::chains::Shape;
 use crate::shown::{CHEAP, Words, copies, copy_both};
 use eqc_adders::{Lookalikes, Sums};
-use eqc_graph::{Graph, Literal, is_negated, negated_if, node_of};
+use eqc_xag::{Graph, Literal, is_negated, negated_if, node_of};
 use eqc_sweep::{Effort, Sweep};
 use std::alloc::{AllocError, Global};
 

@@ -1,6 +1,6 @@
 //! Marks of a graph's nodes.
 
-use eqc_graph::{Literal, node_of};
+use eqc_xag::{Literal, node_of};
 
 /// Marks the node of a literal, if it has a mark.
 pub(crate) fn mark(marks: &mut Vec<bool>, literal: Literal) {

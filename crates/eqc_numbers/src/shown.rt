@@ -1,13 +1,13 @@
 //! Words of a graph that are shown equal in a copy of what they are made of.
 ghost use Rattle.std.specs.Prelude.{◌≡◌, ℕ, ◌<◌, List, length, IfOk, IsTrue};
-ghost use Rattle.eqc_graph.specs.declared.node.Node.{Node};
+ghost use Rattle.eqc_xag.specs.declared.node.Node.{Node};
 ghost use Rattle.eqc_sweep.specs.Copying.{AreCopies};
 ghost use Rattle.eqc_sums.specs.Adding.{AreEqualWords};
 ghost use Rattle.eqc_numbers.specs.Copies.{AreCopiesOf};
 
 use crate::chains::{Shape, copy_shaped};
 use eqc_adders::{Attempts, Limits, Sums};
-use eqc_graph::{Graph, Literal};
+use eqc_xag::{Graph, Literal};
 use eqc_sweep::{Effort, Sweep, copied};
 use std::alloc::{AllocError, Global};
 

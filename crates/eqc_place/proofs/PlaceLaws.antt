@@ -3,8 +3,8 @@ use Rattle.std.proofs.Common.{◌≡◌, ℕ, ◌+◌, ◌<◌, ◌≤◌, Bool,
 use Rattle.std.proofs.Common.{length, get_or, take, map, Option, Some, IfSome, refl, sym, ◌∙◌, ap}
 use Rattle.std.proofs.Common.{arith}
 use Rattle.std.proofs.lemmas.List.{take_more, take_all, map-append}
-use Rattle.eqc_graph.specs.declared.node.Node.{Node}
-use Rattle.eqc_graph.specs.Graph.{literal_value}
+use Rattle.eqc_xag.specs.declared.node.Node.{Node}
+use Rattle.eqc_xag.specs.Graph.{literal_value}
 use Rattle.eqc_pair.specs.PairOf.{PairOf, input_values}
 use Rattle.eqc_build.specs.Building.{reference_of}
 use Rattle.eqc_build.specs.Steps.{StepsOf}

@@ -1,7 +1,7 @@
 -- Literals under an assumption.
 use Rattle.std.specs.Prelude.{◌≡◌, ℕ, Bool, true, List}
-use Rattle.eqc_graph.specs.declared.node.Node.{Node}
-use Rattle.eqc_graph.specs.Graph.{literal_value, IsWithin}
+use Rattle.eqc_xag.specs.declared.node.Node.{Node}
+use Rattle.eqc_xag.specs.Graph.{literal_value, IsWithin}
 
 -- literal l of the new nodes has the value of one of the old nodes wherever the assumption, one of
 -- the old nodes, is true

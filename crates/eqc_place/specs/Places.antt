@@ -1,8 +1,8 @@
 -- What is told of the place of a difference.
 use Rattle.std.specs.Prelude.{◌≡◌, ℕ, ◌<◌, Bool, true, not, ltb, List, length, map, All, Option}
 use Rattle.std.specs.Prelude.{Some, IfSome, slice_index}
-use Rattle.eqc_graph.specs.Graph.{differ, literal_value, IsWithin}
-use Rattle.eqc_graph.specs.declared.node.Node.{Node}
+use Rattle.eqc_xag.specs.Graph.{differ, literal_value, IsWithin}
+use Rattle.eqc_xag.specs.declared.node.Node.{Node}
 use Rattle.eqc_netlist.specs.Graph.{value_of}
 use Rattle.eqc_pair.specs.PairOf.{PairOf, assumed_variables, input_values}
 use Rattle.eqc_build.specs.Building.{reference_of}

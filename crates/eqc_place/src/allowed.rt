@@ -1,6 +1,6 @@
 //! Literals by which steps are found equal or opposite wherever the assumption of a pair holds.
 ghost use Rattle.std.specs.Prelude.{IfOk};
-ghost use Rattle.eqc_graph.specs.Graph.{IsWithin, Extends};
+ghost use Rattle.eqc_xag.specs.Graph.{IsWithin, Extends};
 ghost use Rattle.eqc_gates.specs.Entering.{AreLiterals};
 ghost use Rattle.eqc_place.specs.Allowed.{IsUnder};
 ghost use Rattle.eqc_place.specs.Places.{AreProved};
@@ -8,8 +8,8 @@ ghost use Rattle.eqc_place.specs.Places.{AreProved};
 use crate::partner::{literal_at, second_steps};
 use crate::told::values_under;
 use eqc_build::Steps;
-use eqc_graph::{Literal, negated_if};
 use eqc_sweep::Sweep;
+use eqc_xag::{Literal, negated_if};
 use std::alloc::{AllocError, Global};
 
 /// A literal that has the value of another one wherever an assumption holds: its conjunction with

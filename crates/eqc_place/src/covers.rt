@@ -6,8 +6,8 @@ ghost use Rattle.eqc_build.specs.Steps.{steps_in};
 use crate::partner::NONE;
 use crate::words::word_at;
 use eqc_build::{StepDriver, Steps, Uses};
-use eqc_graph::Literal;
 use eqc_netlist::{Rows, is_on_set};
+use eqc_xag::Literal;
 use std::alloc::{AllocError, Global};
 
 /// Where more literals than so many would be listed, for each instance of a model anew, further

@@ -2,8 +2,8 @@
 //! too, or stands below one. Nothing is believed of it.
 
 use crate::partner::literal_at;
-use eqc_graph::{Graph, Literal, node_of};
 use eqc_sweep::below;
+use eqc_xag::{Graph, Literal, node_of};
 use std::alloc::{AllocError, Global};
 
 /// For each node of a graph, whether it stands below a literal of the first netlist, and of the

@@ -5,8 +5,8 @@ ghost use Rattle.eqc_pair.specs.PairOf.{PairOf};
 ghost use Rattle.eqc_place.specs.Places.{AreProved, IsPartner};
 
 use crate::place::Partner;
-use eqc_graph::{Literal, negated, node_of};
 use eqc_pair::Pair;
+use eqc_xag::{Literal, negated, node_of};
 use std::alloc::{AllocError, Global};
 use std::marker::Model;
 

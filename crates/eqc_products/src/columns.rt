@@ -4,7 +4,7 @@ use crate::ends::{End, prefixed};
 use crate::netlist::{FALSE, Netlist};
 use crate::partial::Partial;
 use crate::rows::Row;
-use eqc_graph::Literal;
+use eqc_xag::Literal;
 use std::alloc::{AllocError, Global};
 
 /// The literals of each column, the next one first.

@@ -1,7 +1,7 @@
 //! How a word comes of columns of two: by a chain of adders, or by a tree of prefixes.
 
 use crate::netlist::{FALSE, Netlist};
-use eqc_graph::Literal;
+use eqc_xag::Literal;
 use std::alloc::{AllocError, Global};
 
 /// How carries come to the columns of a word.

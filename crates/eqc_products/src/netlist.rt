@@ -1,7 +1,7 @@
 //! Graphs with adders, of gates that aren't constant.
 ghost use Rattle.std.specs.Prelude.{◌≡◌, ◌/◌, ◌<◌, true, length};
 
-use eqc_graph::{Graph, Literal, Node, negated, node_of};
+use eqc_xag::{Graph, Literal, Node, negated, node_of};
 use std::alloc::{AllocError, Global};
 
 /// The literals that are always false and always true.

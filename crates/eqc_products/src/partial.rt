@@ -3,7 +3,7 @@
 use crate::factors::{Factor, Product, column_of, is_taken_away};
 use crate::netlist::{FALSE, Netlist, TRUE};
 use crate::rows::{Kind, Order, Row};
-use eqc_graph::{Literal, negated, negated_if};
+use eqc_xag::{Literal, negated, negated_if};
 use std::alloc::{AllocError, Global};
 
 /// How the factor of a product is taken that makes its rows.

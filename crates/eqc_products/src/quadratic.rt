@@ -1,8 +1,8 @@
 //! A word as a polynomial of degree two in its inputs.
 
 use crate::simulation::{ASSIGNMENTS, Values, random_patterns, variables_of};
-use eqc_graph::{Graph, Literal};
 use eqc_sweep::Random;
+use eqc_xag::{Graph, Literal};
 use std::alloc::{AllocError, Global};
 
 /// Words that depend on more inputs aren't looked at: a product of 64 bits depends on 128.

@@ -8,8 +8,8 @@ use crate::partial::{Digits, Partial};
 use crate::quadratic::Quadratic;
 use crate::rows::Order;
 use crate::simulation::{ASSIGNMENTS, Values, random_patterns};
-use eqc_graph::{Graph, Literal, negated_if};
 use eqc_sweep::{Random, below};
+use eqc_xag::{Graph, Literal, negated_if};
 use std::alloc::{AllocError, Global};
 
 /// So many of a thousand spans of a tree of prefixes are among what a word is made of at least, if

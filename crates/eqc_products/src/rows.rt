@@ -1,7 +1,7 @@
 //! Rows of literals, one of which may count in each column, and their order.
 
 use crate::netlist::FALSE;
-use eqc_graph::{Literal, negated};
+use eqc_xag::{Literal, negated};
 use std::alloc::{AllocError, Global};
 
 /// In which order rows are added up.

@@ -1,7 +1,7 @@
 //! The values of a graph's nodes for 128 assignments at a time.
 
-use eqc_graph::{Graph, Literal, Node, is_negated, node_of};
 use eqc_sweep::{Random, below};
+use eqc_xag::{Graph, Literal, Node, is_negated, node_of};
 use std::alloc::{AllocError, Global};
 
 /// So many assignments are simulated at once.

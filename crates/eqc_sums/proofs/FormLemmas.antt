@@ -3,10 +3,10 @@ use Rattle.std.proofs.Common.{◌≡◌, ℕ, zero, suc, ◌+◌, ◌-◌, ◌*�
 use Rattle.std.proofs.Common.{false, not, List, [], ◌∷◌, ◌++◌, length, get_or, take, refl, sym, ◌∙◌}
 use Rattle.std.proofs.Common.{ap, subst, arith}
 use Rattle.std.proofs.Math.ListN.{set}
-use Rattle.eqc_graph.specs.declared.node.Node.{Node}
-use Rattle.eqc_graph.specs.Graph.{literal_value, IsWithin, IsGraph, Extends}
-use Rattle.eqc_graph.proofs.GraphLemmas.{value_of_zero}
-use Rattle.eqc_graph.proofs.LiteralLemmas.{value_before}
+use Rattle.eqc_xag.specs.declared.node.Node.{Node}
+use Rattle.eqc_xag.specs.Graph.{literal_value, IsWithin, IsGraph, Extends}
+use Rattle.eqc_xag.proofs.GraphLemmas.{value_of_zero}
+use Rattle.eqc_xag.proofs.LiteralLemmas.{value_before}
 use Rattle.eqc_sums.specs.declared.form.Form.{Form}
 use Rattle.eqc_sums.specs.declared.term.Term.{Term}
 use Rattle.std.proofs.lemmas.List.Sums.{sum_by_more}

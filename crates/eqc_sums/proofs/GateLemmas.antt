@@ -1,9 +1,9 @@
 -- Literals that are made one from another in a graph that grows.
 use Rattle.std.proofs.Common.{◌≡◌, ℕ, ◌+◌, ◌/◌, ◌<◌, ◌≤◌, Bool, true, false, not, ◌&&◌, ◌||◌, List}
 use Rattle.std.proofs.Common.{length, refl, sym, ap, ◌∙◌, arith}
-use Rattle.eqc_graph.specs.declared.node.Node.{Node}
-use Rattle.eqc_graph.specs.Graph.{literal_value, differ, IsWithin, Extends}
-use Rattle.eqc_graph.proofs.GraphLemmas.{extends_along}
+use Rattle.eqc_xag.specs.declared.node.Node.{Node}
+use Rattle.eqc_xag.specs.Graph.{literal_value, differ, IsWithin, Extends}
+use Rattle.eqc_xag.proofs.GraphLemmas.{extends_along}
 use Rattle.eqc_sweep.specs.Sweeping.{HasValue}
 use Rattle.eqc_sums.specs.Adding.{majority}
 

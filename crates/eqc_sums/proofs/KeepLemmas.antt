@@ -2,9 +2,9 @@
 use Rattle.std.proofs.Common.{◌≡◌, ℕ, ◌+◌, ◌-◌, ◌*◌, ◌/◌, ◌%◌, ◌^◌, ◌<◌, ◌≤◌, Bool, List, length}
 use Rattle.std.proofs.Common.{refl, sym, ◌∙◌, ap, subst, arith}
 use Rattle.std.specs.List.{All}
-use Rattle.eqc_graph.specs.declared.node.Node.{Node}
-use Rattle.eqc_graph.specs.Graph.{literal_value, IsWithin, Extends}
-use Rattle.eqc_graph.proofs.GraphLemmas.{extends_itself, extends_along}
+use Rattle.eqc_xag.specs.declared.node.Node.{Node}
+use Rattle.eqc_xag.specs.Graph.{literal_value, IsWithin, Extends}
+use Rattle.eqc_xag.proofs.GraphLemmas.{extends_itself, extends_along}
 use Rattle.eqc_sums.specs.declared.form.Form.{Form}
 use Rattle.eqc_sums.specs.declared.term.Term.{Term}
 use Rattle.eqc_sums.specs.Forms.{terms_sum, form_value, HasSum, IsZeroStep, IsOver, Keeps}

@@ -7,10 +7,10 @@ use Rattle.std.proofs.Math.ListN.{set}
 use Rattle.std.proofs.lemmas.List.{take_all, get_or_default}
 use Rattle.std.proofs.lemmas.List.Sums.{sum_by_more, sum_by-set, sum_by-cons}
 use Rattle.std.proofs.lemmas.Nat.{mul-mod_first, mul-mod_second, mul-mod}
-use Rattle.eqc_graph.specs.declared.node.Node.{Node}
-use Rattle.eqc_graph.specs.Graph.{literal_value, differ, IsWithin, IsGraph, Extends}
-use Rattle.eqc_graph.proofs.GraphLemmas.{extends_itself, extends_along, value_of_one}
-use Rattle.eqc_graph.proofs.LiteralLemmas.{value_before}
+use Rattle.eqc_xag.specs.declared.node.Node.{Node}
+use Rattle.eqc_xag.specs.Graph.{literal_value, differ, IsWithin, IsGraph, Extends}
+use Rattle.eqc_xag.proofs.GraphLemmas.{extends_itself, extends_along, value_of_one}
+use Rattle.eqc_xag.proofs.LiteralLemmas.{value_before}
 use Rattle.eqc_sums.specs.declared.term.Term.{Term}
 use Rattle.eqc_sums.specs.Forms.{bit, terms_sum, HasSum}
 use Rattle.eqc_sums.specs.Adding.{gate_number, IsGateOf}

@@ -6,9 +6,9 @@ use Rattle.std.specs.List.{All}
 use Rattle.std.proofs.lemmas.List.{take_all}
 use Rattle.std.proofs.lemmas.List.Elements.{All-nil, All-push}
 use Rattle.std.proofs.lemmas.List.Sums.{sum_by_more, sum_by_push, sum_by-cons}
-use Rattle.eqc_graph.specs.declared.node.Node.{Node}
-use Rattle.eqc_graph.specs.Graph.{literal_value, differ, IsWithin, Extends}
-use Rattle.eqc_graph.proofs.GraphLemmas.{extends_itself, extends_along}
+use Rattle.eqc_xag.specs.declared.node.Node.{Node}
+use Rattle.eqc_xag.specs.Graph.{literal_value, differ, IsWithin, Extends}
+use Rattle.eqc_xag.proofs.GraphLemmas.{extends_itself, extends_along}
 use Rattle.eqc_sweep.specs.Sweeping.{HasValue}
 use Rattle.eqc_sweep.specs.Finding.{AreEqual}
 use Rattle.eqc_sums.specs.declared.term.Term.{Term}

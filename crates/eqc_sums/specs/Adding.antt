@@ -2,8 +2,8 @@
 use Rattle.std.specs.Prelude.{◌≡◌, ℕ, ◌+◌, ◌-◌, ◌*◌, ◌/◌, ◌%◌, ◌^◌, ◌<◌, ◌≤◌, ◌&&◌, ◌||◌, Bool}
 use Rattle.std.specs.Prelude.{true, false, List, [], ◌∷◌, length, slice_index}
 use Rattle.std.specs.List.{All}
-use Rattle.eqc_graph.specs.declared.node.Node.{Node}
-use Rattle.eqc_graph.specs.Graph.{literal_value, IsWithin}
+use Rattle.eqc_xag.specs.declared.node.Node.{Node}
+use Rattle.eqc_xag.specs.Graph.{literal_value, IsWithin}
 use Rattle.eqc_sweep.specs.Finding.{AreEqual}
 use Rattle.eqc_sums.specs.declared.form.Form.{Form}
 use Rattle.eqc_sums.specs.Forms.{bit, form_value, IsOver}

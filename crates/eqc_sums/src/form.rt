@@ -1,12 +1,12 @@
 //! Linear forms over the nodes of a graph.
 ghost use Rattle.std.specs.Prelude.{◌≡◌, ℕ, ◌+◌, ◌*◌, ◌/◌, ◌%◌, ◌^◌, ◌<◌, ◌≤◌, Bool, List, length, IfOk, IsTrue, slice_index};
 ghost use Rattle.std.specs.List.{All};
-ghost use Rattle.eqc_graph.specs.declared.node.Node.{Node};
-ghost use Rattle.eqc_graph.specs.Graph.{literal_value, IsGraph};
+ghost use Rattle.eqc_xag.specs.declared.node.Node.{Node};
+ghost use Rattle.eqc_xag.specs.Graph.{literal_value, IsGraph};
 ghost use Rattle.eqc_sums.specs.Forms.{bit, terms_sum, form_value};
 
 use crate::term::Term;
-use eqc_graph::Literal;
+use eqc_xag::Literal;
 use std::alloc::{AllocError, Global};
 
 /// A constant, and a coefficient for each of the first nodes of a graph, modulo 2^128.

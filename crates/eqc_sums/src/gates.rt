@@ -1,11 +1,11 @@
 //! The sum and the carry of three literals.
 ghost use Rattle.std.specs.Prelude.{◌≡◌, ◌/◌, ◌<◌, IfOk};
-ghost use Rattle.eqc_graph.specs.Graph.{differ, literal_value, IsWithin, Extends};
+ghost use Rattle.eqc_xag.specs.Graph.{differ, literal_value, IsWithin, Extends};
 ghost use Rattle.eqc_sweep.specs.Sweeping.{HasValue};
 ghost use Rattle.eqc_sums.specs.Adding.{majority};
 
-use eqc_graph::{Literal, negated};
 use eqc_sweep::Sweep;
+use eqc_xag::{Literal, negated};
 use std::alloc::AllocError;
 
 #[tactic(auto, using(crate::proofs::GateLemmas::sum_value, crate::proofs::GateLemmas::extends_both))]

@@ -1,15 +1,15 @@
 //! Literals as polynomials of literals below them: terms whose literals are conjunctions.
 ghost use Rattle.std.specs.Prelude.{◌≡◌, ℕ, ◌+◌, ◌*◌, ◌/◌, ◌<◌, Bool, List, length, IfOk, IfSome};
 ghost use Rattle.std.specs.List.{All};
-ghost use Rattle.eqc_graph.specs.declared.node.Node.{Node};
-ghost use Rattle.eqc_graph.specs.Graph.{differ, literal_value, IsWithin, IsGraph, Extends};
+ghost use Rattle.eqc_xag.specs.declared.node.Node.{Node};
+ghost use Rattle.eqc_xag.specs.Graph.{differ, literal_value, IsWithin, IsGraph, Extends};
 ghost use Rattle.eqc_sums.specs.Forms.{bit, terms_sum, HasSum, IsZeroStep};
 ghost use Rattle.eqc_sums.specs.Adding.{gate_number, IsGateOf};
 
 use crate::steps::times;
 use crate::term::Term;
-use eqc_graph::{Graph, Literal, Node, is_negated};
 use eqc_sweep::Sweep;
+use eqc_xag::{Graph, Literal, Node, is_negated};
 use std::alloc::{AllocError, Global};
 
 /// How many conjunctions may be made of the terms of two polynomials.

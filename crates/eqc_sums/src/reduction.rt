@@ -1,7 +1,7 @@
 //! A form over a graph that grows, to which zero steps are added: what it comes to stays.
 ghost use Rattle.std.specs.Prelude.{◌≡◌, ℕ, ◌/◌, ◌<◌, true, Bool, List, IfOk, IsTrue};
-ghost use Rattle.eqc_graph.specs.declared.node.Node.{Node};
-ghost use Rattle.eqc_graph.specs.Graph.{IsWithin, IsGraph};
+ghost use Rattle.eqc_xag.specs.declared.node.Node.{Node};
+ghost use Rattle.eqc_xag.specs.Graph.{IsWithin, IsGraph};
 ghost use Rattle.eqc_sums.specs.Forms.{form_value, IsZeroStep, Keeps};
 ghost use Rattle.eqc_sums.specs.Adding.{IsFormOf};
 
@@ -10,8 +10,8 @@ use crate::polynomial::{expansion, product_expansion};
 use crate::steps::{adder, alias, parity, polarity, product, split, split_product};
 use crate::term::Term;
 use crate::words::{MOST_LITERALS, are_within, difference};
-use eqc_graph::{Literal, node_of};
 use eqc_sweep::{Comparison, Effort, Sweep};
+use eqc_xag::{Literal, node_of};
 use std::alloc::{AllocError, Global};
 
 /// A form over a graph that grows.

@@ -1,14 +1,14 @@
 //! Zero steps: terms that come to 0 under each assignment, whose literals are made in the graph.
 ghost use Rattle.std.specs.Prelude.{◌≡◌, ℕ, ◌+◌, ◌*◌, ◌/◌, ◌<◌, Bool, IfOk};
 ghost use Rattle.std.specs.List.{All};
-ghost use Rattle.eqc_graph.specs.Graph.{literal_value, IsWithin, Extends};
+ghost use Rattle.eqc_xag.specs.Graph.{literal_value, IsWithin, Extends};
 ghost use Rattle.eqc_sweep.specs.Finding.{AreEqual};
 ghost use Rattle.eqc_sums.specs.Forms.{bit, terms_sum, HasSum, IsZeroStep};
 
 use crate::gates::{carry_of, sum_of};
 use crate::term::Term;
-use eqc_graph::{Literal, negated};
 use eqc_sweep::Sweep;
+use eqc_xag::{Literal, negated};
 use std::alloc::{AllocError, Global};
 
 /// Half of 2^128.

@@ -1,5 +1,5 @@
 //! Terms of linear forms.
-use eqc_graph::Literal;
+use eqc_xag::Literal;
 
 /// A literal with a factor.
 #[derive(Clone, Copy, PartialEq, Eq, Debug)]

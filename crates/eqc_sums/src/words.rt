@@ -1,13 +1,13 @@
 //! Words: the terms of the form that is zero where two of them stand for the same number.
 ghost use Rattle.std.specs.Prelude.{◌≡◌, ℕ, ◌+◌, ◌-◌, ◌*◌, ◌/◌, ◌%◌, ◌^◌, ◌<◌, ◌≤◌, Bool, List, length, IfOk, IsTrue};
 ghost use Rattle.std.specs.List.{All};
-ghost use Rattle.eqc_graph.specs.declared.node.Node.{Node};
-ghost use Rattle.eqc_graph.specs.Graph.{IsWithin};
+ghost use Rattle.eqc_xag.specs.declared.node.Node.{Node};
+ghost use Rattle.eqc_xag.specs.Graph.{IsWithin};
 ghost use Rattle.eqc_sums.specs.Forms.{terms_sum};
 ghost use Rattle.eqc_sums.specs.Adding.{number};
 
 use crate::term::Term;
-use eqc_graph::{Graph, Literal, node_of};
+use eqc_xag::{Graph, Literal, node_of};
 use std::alloc::{AllocError, Global};
 
 /// How many literals a word has at most: what looks for words ends them there.

@@ -1,6 +1,6 @@
 //! Literals by the columns in which they count, and words of literals.
 
-use eqc_graph::negated;
+use eqc_xag::negated;
 use std::alloc::{AllocError, Global};
 
 /// Empty columns.

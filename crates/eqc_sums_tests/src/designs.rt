@@ -5,9 +5,9 @@ use crate::factors::Factors;
 use crate::gates::chosen;
 use crate::multipliers::{Architecture, product};
 use eqc_adders::Limits;
-use eqc_graph::Graph;
 use eqc_numbers::{Words, are_equal_in_cases, are_shown_equal, find_lookalikes};
 use eqc_sweep::{Effort, Sweep};
+use eqc_xag::Graph;
 use std::alloc::{AllocError, Global};
 
 /// The first input that is no factor's.

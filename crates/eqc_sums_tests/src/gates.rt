@@ -1,8 +1,8 @@
 //! Gates and adders in a graph, as they are made and as a mapping leaves them. Literals that are not the
 //! graph's are taken for false.
 
-use eqc_graph::{negated, node_of};
 use eqc_sweep::Sweep;
+use eqc_xag::{negated, node_of};
 use std::alloc::{AllocError, Global};
 
 pub(crate) fn and(sweep: &mut Sweep, x: u32, y: u32) -> Result<u32, AllocError> {

@@ -4,8 +4,8 @@ use crate::columns::{at, columns, height, put, put_ones, take_away, taken};
 use crate::factors::{Factors, Terms, terms_of};
 use crate::gates::{add_to_three, and, carry_of, full, or, xor};
 use crate::rows::{by_threes, whole};
-use eqc_graph::negated;
 use eqc_sweep::Sweep;
+use eqc_xag::negated;
 use std::alloc::{AllocError, Global};
 
 /// How a product is summed up, and with which partial products.

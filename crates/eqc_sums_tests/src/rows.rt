@@ -4,8 +4,8 @@
 use crate::columns::{at, columns, height, place, put, put_ones, taken};
 use crate::factors::Terms;
 use crate::gates::{add_to_three, and, carry_of, full, xor};
-use eqc_graph::negated_if;
 use eqc_sweep::Sweep;
+use eqc_xag::negated_if;
 use std::alloc::{AllocError, Global};
 
 /// What a row has in a column: a literal, or the sum of three, which isn't there by itself.

@@ -5,9 +5,9 @@ use crate::factors::Factors;
 use crate::gates::{and, xor};
 use crate::multipliers::{Architecture, product};
 use eqc_adders::{Limits, Sums, has_adders};
-use eqc_graph::negated;
 use eqc_numbers::{Shape, copy_shaped, words_of};
 use eqc_sweep::{Effort, Sweep, copied};
+use eqc_xag::negated;
 use std::alloc::{AllocError, Global};
 
 /// Two products in one graph.

@@ -1,6 +1,6 @@
 -- Laws of truth values.
 use Rattle.std.proofs.Common.{◌≡◌, Bool, true, false, not, ◌&&◌, refl, sym, ap, ◌∙◌}
-use Rattle.eqc_graph.specs.Graph.{differ}
+use Rattle.eqc_xag.specs.Graph.{differ}
 
 -- functions of one and of two truth values that agree at each
 pub same_of_one : (f g : Bool → Bool) → f true ≡ g true → f false ≡ g false → (p : Bool) → f p ≡ g p

@@ -1,10 +1,10 @@
 -- The two constant literals of a graph.
 use Rattle.std.proofs.Common.{◌≡◌, ℕ, ◌+◌, ◌*◌, ◌/◌, ◌<◌, Bool, true, false, not, cond, List}
 use Rattle.std.proofs.Common.{length, refl, ap, ◌∙◌, sym, subst, arith}
-use Rattle.eqc_graph.specs.declared.node.Node.{Node}
-use Rattle.eqc_graph.specs.Graph.{node_value, literal_value, IsWithin, node_at, IsGraph}
-use Rattle.eqc_graph.proofs.GraphLemmas.{value_at_node}
-use Rattle.eqc_graph.proofs.LiteralLemmas.{value_behind}
+use Rattle.eqc_xag.specs.declared.node.Node.{Node}
+use Rattle.eqc_xag.specs.Graph.{node_value, literal_value, IsWithin, node_at, IsGraph}
+use Rattle.eqc_xag.proofs.GraphLemmas.{value_at_node}
+use Rattle.eqc_xag.proofs.LiteralLemmas.{value_behind}
 use Rattle.eqc_sweep.specs.Sweeping.{HasValue}
 
 -- literal 0 is false

@@ -1,9 +1,9 @@
 -- What refuted questions say of two literals.
 use Rattle.std.proofs.Common.{◌≡◌, ℕ, Bool, true, false, not, ◌&&◌, ◌||◌, List, [], ◌∷◌, refl, sym}
 use Rattle.std.proofs.Common.{ap, ◌∙◌}
-use Rattle.eqc_graph.specs.declared.node.Node.{Node}
-use Rattle.eqc_graph.specs.Graph.{literal_value}
-use Rattle.eqc_clause.specs.Clauses.{IsRefuted}
+use Rattle.eqc_xag.specs.declared.node.Node.{Node}
+use Rattle.eqc_xag.specs.Graph.{literal_value}
+use Rattle.eqc_rup.specs.Clauses.{IsRefuted}
 use Rattle.eqc_sweep.specs.Gates.{AreOpposite}
 use Rattle.eqc_sweep.specs.Finding.{AreEqual, AreNever}
 use Rattle.eqc_sweep.proofs.BoolLemmas.{equal_both}

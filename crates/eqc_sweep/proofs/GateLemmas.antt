@@ -2,10 +2,10 @@
 use Rattle.std.proofs.Common.{◌≡◌, ℕ, ◌+◌, ◌*◌, ◌/◌, ◌%◌, ◌<◌, Bool, true, false, not, ◌&&◌, List}
 use Rattle.std.proofs.Common.{length, refl, sym, ap, ◌∙◌, arith, eqb-true, eqb}
 use Rattle.std.proofs.lemmas.Bool.{eqb-false}
-use Rattle.eqc_graph.specs.declared.node.Node.{Node}
-use Rattle.eqc_graph.specs.declared.node.Node.TheVariants.{And, Xor}
-use Rattle.eqc_graph.specs.Graph.{literal_value, differ, IsBelow}
-use Rattle.eqc_graph.proofs.LiteralLemmas.{value_behind}
+use Rattle.eqc_xag.specs.declared.node.Node.{Node}
+use Rattle.eqc_xag.specs.declared.node.Node.TheVariants.{And, Xor}
+use Rattle.eqc_xag.specs.Graph.{literal_value, differ, IsBelow}
+use Rattle.eqc_xag.proofs.LiteralLemmas.{value_behind}
 use Rattle.eqc_sweep.specs.Gates.{not_both, Makes, AreOpposite}
 use Rattle.eqc_sweep.proofs.BoolLemmas.{same_of_two}
 

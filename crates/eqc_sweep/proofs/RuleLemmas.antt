@@ -1,9 +1,9 @@
 -- One rule after another.
 use Rattle.std.proofs.Common.{◌≡◌, ℕ, ◌+◌, ◌*◌, ◌/◌, ◌<◌, Bool, true, false, not, ◌&&◌, List}
 use Rattle.std.proofs.Common.{length, refl, sym, ap, ◌∙◌, arith}
-use Rattle.eqc_graph.specs.declared.node.Node.{Node}
-use Rattle.eqc_graph.specs.declared.node.Node.TheVariants.{Constant, Input, And, Xor}
-use Rattle.eqc_graph.specs.Graph.{literal_value, node_value, differ, IsWithin, IsBelow, IsGraph}
+use Rattle.eqc_xag.specs.declared.node.Node.{Node}
+use Rattle.eqc_xag.specs.declared.node.Node.TheVariants.{Constant, Input, And, Xor}
+use Rattle.eqc_xag.specs.Graph.{literal_value, node_value, differ, IsWithin, IsBelow, IsGraph}
 use Rattle.eqc_sweep.specs.declared.reduced.Reduced.{Reduced}
 use Rattle.eqc_sweep.specs.declared.reduced.Reduced.TheVariants.{There, Absent}
 use Rattle.eqc_sweep.specs.Gates.{not_both, Makes, AreOpposite, Excludes, Implies}

@@ -2,10 +2,10 @@
 use Rattle.std.proofs.Common.{◌≡◌, ℕ, ◌+◌, ◌*◌, ◌/◌, ◌<◌, ◌≤◌, Bool, true, false, not, List, []}
 use Rattle.std.proofs.Common.{◌∷◌, ◌++◌, length, take, refl, sym, ap, subst, ◌∙◌, arith}
 use Rattle.std.proofs.lemmas.List.{length-append}
-use Rattle.eqc_graph.specs.declared.node.Node.{Node}
-use Rattle.eqc_graph.specs.Graph.{literal_value, node_value, differ, IsWithin, IsBelow, IsGraph}
-use Rattle.eqc_graph.specs.Graph.{Extends}
-use Rattle.eqc_graph.proofs.GraphLemmas.{extends_itself, node_same, value_stays, cut_back}
+use Rattle.eqc_xag.specs.declared.node.Node.{Node}
+use Rattle.eqc_xag.specs.Graph.{literal_value, node_value, differ, IsWithin, IsBelow, IsGraph}
+use Rattle.eqc_xag.specs.Graph.{Extends}
+use Rattle.eqc_xag.proofs.GraphLemmas.{extends_itself, node_same, value_stays, cut_back}
 use Rattle.eqc_sweep.specs.declared.reduced.Reduced.TheVariants.{There, Absent}
 use Rattle.eqc_sweep.specs.Sweeping.{HasValue, HasValueOf}
 use Rattle.eqc_sweep.specs.Reducing.{StandsFor}

@@ -3,10 +3,10 @@ use Rattle.std.proofs.Common.{◌≡◌, ℕ, ◌+◌, ◌/◌, ◌<◌, Bool, L
 use Rattle.std.proofs.Common.{subst, arith}
 use Rattle.std.proofs.Math.ListN.{set, replicate}
 use Rattle.std.proofs.lemmas.List.Elements.{All-replicate, All-nil, All-weaker}
-use Rattle.eqc_graph.specs.declared.node.Node.{Node}
-use Rattle.eqc_graph.specs.declared.node.Node.TheVariants.{Constant, Input, And, Xor}
-use Rattle.eqc_graph.specs.Graph.{literal_value, node_value, IsWithin, IsBelow, IsGraph, Extends}
-use Rattle.eqc_graph.proofs.GraphLemmas.{node_same}
+use Rattle.eqc_xag.specs.declared.node.Node.{Node}
+use Rattle.eqc_xag.specs.declared.node.Node.TheVariants.{Constant, Input, And, Xor}
+use Rattle.eqc_xag.specs.Graph.{literal_value, node_value, IsWithin, IsBelow, IsGraph, Extends}
+use Rattle.eqc_xag.proofs.GraphLemmas.{node_same}
 use Rattle.eqc_sweep.specs.declared.table.Known.{Known}
 use Rattle.eqc_sweep.specs.Known.{IsLiteralOf, AreKnown}
 use Rattle.eqc_sweep.proofs.ConstantLemmas.{value_false}

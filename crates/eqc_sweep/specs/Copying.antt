@@ -1,7 +1,7 @@
 -- The literals that nodes of a graph have in another one.
 use Rattle.std.specs.Prelude.{◌≡◌, ℕ, ◌*◌, Bool, List, Option, Some, None, slice_index_or}
-use Rattle.eqc_graph.specs.declared.node.Node.{Node}
-use Rattle.eqc_graph.specs.Graph.{literal_value, node_value}
+use Rattle.eqc_xag.specs.declared.node.Node.{Node}
+use Rattle.eqc_xag.specs.Graph.{literal_value, node_value}
 use Rattle.eqc_sweep.specs.Sweeping.{HasValue}
 
 -- the literal of a node in a table

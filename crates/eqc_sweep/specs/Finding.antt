@@ -1,7 +1,7 @@
 -- What is found of two literals.
 use Rattle.std.specs.Prelude.{◌≡◌, ℕ, ◌/◌, ◌<◌, ◌&&◌, Bool, false, List, ⊤}
-use Rattle.eqc_graph.specs.declared.node.Node.{Node}
-use Rattle.eqc_graph.specs.Graph.{literal_value}
+use Rattle.eqc_xag.specs.declared.node.Node.{Node}
+use Rattle.eqc_xag.specs.Graph.{literal_value}
 use Rattle.eqc_sweep.specs.declared.finder.comparison.Comparison.{Comparison}
 use Rattle.eqc_sweep.specs.declared.finder.comparison.Comparison.TheVariants.{Equal, Differs}
 use Rattle.eqc_sweep.specs.declared.finder.comparison.Comparison.TheVariants.{Unknown}

@@ -1,7 +1,7 @@
 -- What a literal is of its gate's operands, and how literals are related.
 use Rattle.std.specs.Prelude.{◌≡◌, ℕ, ◌/◌, ◌&&◌, Bool, false, not, List, ⊤}
-use Rattle.eqc_graph.specs.declared.node.Node.{Node}
-use Rattle.eqc_graph.specs.Graph.{literal_value, differ, IsWithin}
+use Rattle.eqc_xag.specs.declared.node.Node.{Node}
+use Rattle.eqc_xag.specs.Graph.{literal_value, differ, IsWithin}
 use Rattle.eqc_sweep.specs.declared.rules.gate.Gate.{Gate}
 use Rattle.eqc_sweep.specs.declared.rules.gate.Gate.TheVariants.{Both, NotBoth, Differ, Other}
 

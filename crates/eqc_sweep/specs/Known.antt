@@ -1,8 +1,8 @@
 -- What the table of structural hashing holds.
 use Rattle.std.specs.Prelude.{◌≡◌, ℕ, Bool, List, length}
 use Rattle.std.specs.List.{All}
-use Rattle.eqc_graph.specs.declared.node.Node.{Node}
-use Rattle.eqc_graph.specs.Graph.{literal_value, node_value, IsWithin, IsBelow}
+use Rattle.eqc_xag.specs.declared.node.Node.{Node}
+use Rattle.eqc_xag.specs.Graph.{literal_value, node_value, IsWithin, IsBelow}
 use Rattle.eqc_sweep.specs.declared.table.Known.{Known}
 
 -- literal l has the value that the node says, under each assignment

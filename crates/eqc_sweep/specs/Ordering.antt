@@ -1,7 +1,7 @@
 -- The one form of a gate under which it is looked up.
 use Rattle.std.specs.Prelude.{◌≡◌, ℕ, ◌/◌, ◌%◌, ◌==◌, Bool, List}
-use Rattle.eqc_graph.specs.declared.node.Node.{Node}
-use Rattle.eqc_graph.specs.Graph.{literal_value, node_value, differ, IsBelow}
+use Rattle.eqc_xag.specs.declared.node.Node.{Node}
+use Rattle.eqc_xag.specs.Graph.{literal_value, node_value, differ, IsBelow}
 
 -- m is made of the same nodes, and has the value of n, or the opposite where sign says so
 pub record IsFormOf (n m : Node) (sign : Bool) : Type 0 where

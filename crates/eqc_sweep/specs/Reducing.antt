@@ -1,8 +1,8 @@
 -- What a rule puts in place of a gate.
 use Rattle.std.specs.Prelude.{◌≡◌, ℕ, Bool, List, length, Option, IfSome}
-use Rattle.eqc_graph.specs.declared.node.Node.{Node}
-use Rattle.eqc_graph.specs.declared.node.Node.TheVariants.{And}
-use Rattle.eqc_graph.specs.Graph.{literal_value, node_value, IsWithin, IsBelow, IsGraph}
+use Rattle.eqc_xag.specs.declared.node.Node.{Node}
+use Rattle.eqc_xag.specs.declared.node.Node.TheVariants.{And}
+use Rattle.eqc_xag.specs.Graph.{literal_value, node_value, IsWithin, IsBelow, IsGraph}
 use Rattle.eqc_sweep.specs.declared.reduced.Reduced.{Reduced}
 use Rattle.eqc_sweep.specs.declared.reduced.Reduced.TheVariants.{There, Absent}
 use Rattle.eqc_sweep.specs.Gates.{Makes}

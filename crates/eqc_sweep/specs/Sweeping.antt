@@ -1,7 +1,7 @@
 -- What the calls of a sweep say of the literals that they give.
 use Rattle.std.specs.Prelude.{◌≡◌, ℕ, Bool, List}
-use Rattle.eqc_graph.specs.declared.node.Node.{Node}
-use Rattle.eqc_graph.specs.Graph.{literal_value, node_value, IsWithin}
+use Rattle.eqc_xag.specs.declared.node.Node.{Node}
+use Rattle.eqc_xag.specs.Graph.{literal_value, node_value, IsWithin}
 
 -- literal l is one of the nodes', with this value under each assignment
 pub record HasValue (nodes : List Node) (l : ℕ) (f : (ℕ → Bool) → Bool) : Type 0 where

@@ -1,8 +1,8 @@
 -- Questions about pairs of literals that may be equal, and what is answered.
 use Rattle.std.specs.Prelude.{◌≡◌, ◌%◌, List, Option, IfSome}
 use Rattle.std.specs.List.{All, Contains}
-use Rattle.eqc_graph.specs.declared.node.Node.{Node}
-use Rattle.eqc_search.specs.declared.search.Answer.TheVariants.{Refuted}
+use Rattle.eqc_xag.specs.declared.node.Node.{Node}
+use Rattle.eqc_cdcl.specs.declared.search.Answer.TheVariants.{Refuted}
 use Rattle.eqc_sweep.specs.Finding.{AreEqual, IsOlder}
 use Rattle.eqc_sweep.specs.declared.finder.team.Answered.{Answered}
 use Rattle.eqc_sweep.specs.declared.finder.team.Merge.{Merge}

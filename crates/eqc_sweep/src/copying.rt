@@ -1,15 +1,15 @@
 //! The nodes of a graph in another one, in which more of them may be found equal.
 ghost use Rattle.std.specs.Prelude.{◌≡◌, ◌*◌, ◌<◌, List, length, IfOk, IfSome};
 ghost use Rattle.std.specs.List.{All};
-ghost use Rattle.eqc_graph.specs.declared.node.Node.{Node};
-ghost use Rattle.eqc_graph.specs.Graph.{Extends};
+ghost use Rattle.eqc_xag.specs.declared.node.Node.{Node};
+ghost use Rattle.eqc_xag.specs.Graph.{Extends};
 ghost use Rattle.eqc_sweep.specs.Copying.{AreCopies, IsCopyOf, copy_of};
 
 pub(crate) mod ready;
 
 use crate::copying::ready::Ready;
 use crate::sweep::Sweep;
-use eqc_graph::{Graph, Literal, Node, is_negated, negated_if, node_of};
+use eqc_xag::{Graph, Literal, Node, is_negated, negated_if, node_of};
 use std::alloc::{AllocError, Global};
 use std::thread::Threads;
 

@@ -1,6 +1,6 @@
 //! Older nodes that a new one equals: simulation says which may, and the search is asked.
 ghost use Rattle.std.specs.Prelude.{◌≡◌, ◌/◌, ◌<◌, IfOk, IfSome};
-ghost use Rattle.eqc_graph.specs.Graph.{IsWithin};
+ghost use Rattle.eqc_xag.specs.Graph.{IsWithin};
 ghost use Rattle.eqc_sweep.specs.Finding.{AreEqual, IsOlder, AreNever, IsRight};
 
 pub(crate) mod account;
@@ -24,8 +24,8 @@ use crate::finder::counterexamples::{Counterexamples, ROOM};
 use crate::finder::patterns::Patterns;
 use crate::finder::team::copied;
 use crate::finder::waiting::{Waiting, team_of};
-use eqc_graph::{Graph, Literal, Node, negated, negated_if, node_of};
-use eqc_search::{Answer, Budget, Search};
+use eqc_cdcl::{Answer, Budget, Search};
+use eqc_xag::{Graph, Literal, Node, negated, negated_if, node_of};
 use std::alloc::{AllocError, Global};
 
 /// How many older nodes a new one is asked against.

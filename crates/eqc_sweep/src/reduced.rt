@@ -1,6 +1,6 @@
 //! What stands in place of a gate.
 
-use eqc_graph::{Literal, Node};
+use eqc_xag::{Literal, Node};
 
 /// What a rule puts in place of a gate.
 #[derive(Clone, Copy, PartialEq, Eq, Debug)]

@@ -1,6 +1,6 @@
 //! The rules, one after another, as long as one applies.
 ghost use Rattle.std.specs.Prelude.{length, IfSome};
-ghost use Rattle.eqc_graph.specs.Graph.{IsBelow};
+ghost use Rattle.eqc_xag.specs.Graph.{IsBelow};
 ghost use Rattle.eqc_sweep.specs.Reducing.{StandsFor};
 
 pub(crate) mod and_rules;
@@ -11,7 +11,7 @@ pub(crate) mod xor_rules;
 use crate::reduced::Reduced;
 use crate::rules::and_rules::and_rule;
 use crate::rules::xor_rules::xor_rule;
-use eqc_graph::{Graph, Node};
+use eqc_xag::{Graph, Node};
 
 /// How many rules are applied to a gate, one to what the other left. More than three were not met.
 const MOST: u32 = 8;

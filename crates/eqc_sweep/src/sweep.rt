@@ -1,6 +1,6 @@
 //! The public type: a graph that grows by gates.
 ghost use Rattle.std.specs.Prelude.{◌≡◌, ℕ, Bool, ◌&&◌, [], ◌∷◌, length, IfOk};
-ghost use Rattle.eqc_graph.specs.Graph.{differ, literal_value, node_value, IsWithin, IsBelow, Extends};
+ghost use Rattle.eqc_xag.specs.Graph.{differ, literal_value, node_value, IsWithin, IsBelow, Extends};
 ghost use Rattle.eqc_sweep.specs.Sweeping.{HasValue, HasValueOf};
 ghost use Rattle.eqc_sweep.specs.Finding.{IsRight};
 ghost use Rattle.std.specs.List.{All};
@@ -17,7 +17,7 @@ use crate::reduced::Reduced;
 use crate::rules::reduced;
 use crate::table::Table;
 use crate::table::order::ordered;
-use eqc_graph::{Graph, Literal, Node, negated_if, node_of};
+use eqc_xag::{Graph, Literal, Node, negated_if, node_of};
 use std::alloc::{AllocError, Global};
 use std::marker::Model;
 use std::thread::Threads;
@@ -31,7 +31,7 @@ pub struct Sweep {
 
 impl Model for Sweep {
     ghost use Rattle.std.specs.Prelude.{List};
-    ghost use Rattle.eqc_graph.specs.declared.node.Node.{Node};
+    ghost use Rattle.eqc_xag.specs.declared.node.Node.{Node};
     ghost use Rattle.eqc_sweep.specs.Known.{AreKnown};
 
     ghost Value = { List Node };

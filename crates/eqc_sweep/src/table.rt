@@ -1,11 +1,11 @@
 //! Structural hashing: the literals of gates that were asked for.
 ghost use Rattle.std.specs.Prelude.{◌≡◌, List, [], IfOk, IfSome};
-ghost use Rattle.eqc_graph.specs.Graph.{IsGraph};
+ghost use Rattle.eqc_xag.specs.Graph.{IsGraph};
 ghost use Rattle.eqc_sweep.specs.Known.{IsLiteralOf, AreKnown};
 
 pub(crate) mod order;
 
-use eqc_graph::{Literal, Node};
+use eqc_xag::{Literal, Node};
 use std::alloc::{AllocError, Global};
 
 /// The fewest places that a table has, once it has any.

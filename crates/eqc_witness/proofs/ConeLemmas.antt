@@ -5,9 +5,9 @@ use Rattle.std.proofs.Common.{◌∷◌, ◌++◌, length, get_or, refl, sym, �
 use Rattle.std.specs.List.{list_any}
 use Rattle.std.proofs.lemmas.List.{get_or_append_left}
 use Rattle.std.proofs.lemmas.List.Folds.{list_any-append}
-use Rattle.eqc_graph.specs.declared.node.Node.{Node}
-use Rattle.eqc_graph.specs.Graph.{literal_value, differ}
-use Rattle.eqc_clause.specs.Clauses.{IsRefuted}
+use Rattle.eqc_xag.specs.declared.node.Node.{Node}
+use Rattle.eqc_xag.specs.Graph.{literal_value, differ}
+use Rattle.eqc_rup.specs.Clauses.{IsRefuted}
 use Rattle.eqc_witness.specs.Cones.{AreAssumptions, IsCone, holds_under, values_at}
 
 -- so far: the literals of the first k positions

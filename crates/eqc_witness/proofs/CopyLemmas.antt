@@ -6,11 +6,11 @@ use Rattle.std.specs.List.{position_or_len}
 use Rattle.std.proofs.lemmas.Bool.{cases_eq, cases_lt, eq-eqb, ne_eqb}
 use Rattle.std.proofs.lemmas.List.{length-append, get_or_append_left, get_or_at, get_or_past}
 use Rattle.eqc_tree.specs.Assigned.{assigned}
-use Rattle.eqc_graph.specs.declared.node.Node.{Node}
-use Rattle.eqc_graph.specs.declared.node.Node.TheVariants.{And, Xor}
-use Rattle.eqc_graph.specs.Graph.{literal_value, node_value, differ, Extends, IsGraph, IsWithin}
-use Rattle.eqc_graph.proofs.GraphLemmas.{value_of_zero}
-use Rattle.eqc_graph.proofs.LiteralLemmas.{value_behind}
+use Rattle.eqc_xag.specs.declared.node.Node.{Node}
+use Rattle.eqc_xag.specs.declared.node.Node.TheVariants.{And, Xor}
+use Rattle.eqc_xag.specs.Graph.{literal_value, node_value, differ, Extends, IsGraph, IsWithin}
+use Rattle.eqc_xag.proofs.GraphLemmas.{value_of_zero}
+use Rattle.eqc_xag.proofs.LiteralLemmas.{value_behind}
 use Rattle.eqc_witness.specs.Cones.{AreCopies, HasInputs, IsCopy, values_at}
 
 -- ---- graphs that go on

@@ -3,10 +3,10 @@ use Rattle.std.proofs.Common.{◌≡◌, ℕ, ◌+◌, ◌*◌, ◌/◌, ◌%◌
 use Rattle.std.proofs.Common.{get_or, refl, sym, ◌∙◌, ap, inl, inr, arith}
 use Rattle.std.proofs.lemmas.Bool.{cases_lt, eq-eqb, ne_eqb}
 use Rattle.std.proofs.lemmas.List.{length-append, get_or_append_left, get_or_at}
-use Rattle.eqc_graph.specs.declared.node.Node.{Node}
-use Rattle.eqc_graph.specs.Graph.{value_among, node_value, values_from, literal_value, IsBelow}
-use Rattle.eqc_graph.proofs.GraphLemmas.{node_same}
-use Rattle.eqc_graph.proofs.LiteralLemmas.{value_of_literal}
+use Rattle.eqc_xag.specs.declared.node.Node.{Node}
+use Rattle.eqc_xag.specs.Graph.{value_among, node_value, values_from, literal_value, IsBelow}
+use Rattle.eqc_xag.proofs.GraphLemmas.{node_same}
+use Rattle.eqc_xag.proofs.LiteralLemmas.{value_of_literal}
 use Rattle.eqc_witness.specs.Cones.{AreValues}
 
 -- a literal has one value among values that agree on its node

@@ -2,7 +2,7 @@
 use Rattle.std.proofs.Common.{◌≡◌, ◌<◌, ℕ, Bool, List, length, sym, ◌∙◌, Some, None, Result, Ok}
 use Rattle.std.proofs.Common.{Err, IfOk}
 use Rattle.eqc_tree.proofs.FindLemmas.{find_agrees}
-use Rattle.eqc_graph.specs.declared.node.Node.{Node}
+use Rattle.eqc_xag.specs.declared.node.Node.{Node}
 use Rattle.eqc_witness.specs.declared.witness.Witness.{Witness}
 use Rattle.eqc_witness.specs.declared.witness.Witness.TheVariants.{Least, Never, Unknown}
 use Rattle.eqc_witness.specs.Cones.{IsCopy, holds_under}

@@ -1,8 +1,8 @@
 -- What is found of a literal: the least assignment of some variables under which it is true.
 use Rattle.std.specs.Prelude.{◌≡◌, ℕ, ◌<◌, Bool, true, List, length, find, Some, None, IfSome, ⊤}
 use Rattle.eqc_tree.specs.Assigned.{assigned, assignments}
-use Rattle.eqc_graph.specs.declared.node.Node.{Node}
-use Rattle.eqc_graph.specs.Graph.{literal_value}
+use Rattle.eqc_xag.specs.declared.node.Node.{Node}
+use Rattle.eqc_xag.specs.Graph.{literal_value}
 use Rattle.eqc_witness.specs.declared.witness.Witness.{Witness}
 use Rattle.eqc_witness.specs.declared.witness.Witness.TheVariants.{Least, Never, Unknown}
 

@@ -1,7 +1,7 @@
 //! The nodes below a literal, which are found again by their numbers.
 ghost use Rattle.std.specs.Prelude.{◌≡◌, ◌<◌, length, slice_index_or, IfSome};
 
-use eqc_graph::{Graph, Literal, Node, node_of};
+use eqc_xag::{Graph, Literal, Node, node_of};
 use std::alloc::{AllocError, Global};
 
 /// In a slot that is free.

@@ -1,13 +1,13 @@
 //! An assignment that begins with given values.
 ghost use Rattle.std.specs.Prelude.{◌≡◌, ◌≤◌, length, IfOk, IfSome};
-ghost use Rattle.eqc_clause.specs.Clauses.{IsRefuted, IsSound};
+ghost use Rattle.eqc_rup.specs.Clauses.{IsRefuted, IsSound};
 ghost use Rattle.eqc_witness.specs.Cones.{holds_under};
 ghost use Rattle.eqc_witness.specs.Completing.{Completes, IsCompletion};
 
 use crate::cone::Cone;
 use crate::trials::Trials;
-use eqc_graph::Literal;
-use eqc_search::{Answer, Budget, Search};
+use eqc_cdcl::{Answer, Budget, Search};
+use eqc_xag::Literal;
 use std::alloc::{AllocError, Global};
 
 /// What is known of the values that begin with some and make a cone's root true.

@@ -4,7 +4,7 @@ ghost use Rattle.eqc_witness.specs.Cones.{AreAssumptions, IsCone, IsCopy};
 
 use crate::below::Below;
 use crate::copying::{copies, copy_of, inputs_alone};
-use eqc_graph::{Graph, Literal, negated_if};
+use eqc_xag::{Graph, Literal, negated_if};
 use std::alloc::{AllocError, Global};
 
 /// A graph that begins with the inputs of some positions, and a literal of it.

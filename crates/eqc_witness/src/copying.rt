@@ -1,11 +1,11 @@
 //! The copy of a graph's nodes, over positions.
 ghost use Rattle.std.specs.Prelude.{◌≡◌, ℕ, ◌*◌, ◌<◌, List, length, nat_eq, IfOk, IfSome};
 ghost use Rattle.std.specs.List.{position_or_len};
-ghost use Rattle.eqc_graph.specs.Graph.{Extends};
+ghost use Rattle.eqc_xag.specs.Graph.{Extends};
 ghost use Rattle.eqc_witness.specs.Cones.{AreCopies, HasInputs, IsCopy};
 
 use crate::below::Below;
-use eqc_graph::{Graph, Literal, Node, is_negated, negated_if, node_of};
+use eqc_xag::{Graph, Literal, Node, is_negated, negated_if, node_of};
 use std::alloc::{AllocError, Global};
 
 /// The first position of a variable, or the number of positions where it has none.

@@ -1,11 +1,11 @@
 //! The value of a cone's root under values of the positions.
 ghost use Rattle.std.specs.Prelude.{◌≡◌, ◌≤◌, ◌++◌, length, drop, IfOk, IfSome, slice_index_or, false};
-ghost use Rattle.eqc_graph.specs.Graph.{node_value, value_among};
+ghost use Rattle.eqc_xag.specs.Graph.{node_value, value_among};
 ghost use Rattle.eqc_witness.specs.Cones.{holds_under, values_at};
 ghost use Rattle.eqc_witness.specs.Completing.{Completes};
 
 use crate::cone::Cone;
-use eqc_graph::{Literal, Node};
+use eqc_xag::{Literal, Node};
 use std::alloc::{AllocError, Global};
 
 /// The value at a place, false behind the end.

@@ -1,7 +1,7 @@
 //! The least assignment under which a literal is true, position by position.
 ghost use Rattle.std.specs.Prelude.{◌≡◌, ◌∷◌, ◌++◌, [], ◌<◌, ◌≤◌, true, false, length, take, IfOk};
-ghost use Rattle.eqc_graph.specs.Graph.{IsWithin};
-ghost use Rattle.eqc_clause.specs.Clauses.{IsSound};
+ghost use Rattle.eqc_xag.specs.Graph.{IsWithin};
+ghost use Rattle.eqc_rup.specs.Clauses.{IsSound};
 ghost use Rattle.eqc_witness.specs.Completing.{IsCompletion};
 ghost use Rattle.eqc_witness.specs.Cones.{holds_under};
 ghost use Rattle.eqc_witness.specs.Witnesses.{IsFoundOf, IsSpentOn, IsWitness};
@@ -11,8 +11,8 @@ use crate::completion::{Completion, Means, complete};
 use crate::cone::Cone;
 use crate::target::{Hints, Target};
 use crate::trials::{Trials, is_less};
-use eqc_graph::Graph;
-use eqc_search::{Budget, Decides, Search};
+use eqc_cdcl::{Budget, Decides, Search};
+use eqc_xag::Graph;
 use std::alloc::{AllocError, Global};
 
 /// Literals that may be visited for each conflict, and conflicts' worth of them that there are

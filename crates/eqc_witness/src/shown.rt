@@ -1,6 +1,6 @@
 //! Literals that are seen true by simulation.
 use crate::simulation::Simulation;
-use eqc_graph::{Graph, Literal, Node};
+use eqc_xag::{Graph, Literal, Node};
 use std::alloc::{AllocError, Global};
 
 /// How many times 64 assignments are tried, in a graph of no more than so many words in all: fewer

@@ -1,7 +1,7 @@
 //! Simulation: a word for each node of a graph, with its value under 64 assignments. Nothing is
 //! promised of it.
-use eqc_graph::{Graph, Literal, Node, is_negated, node_of};
 use eqc_sweep::Random;
+use eqc_xag::{Graph, Literal, Node, is_negated, node_of};
 use std::alloc::{AllocError, Global};
 
 /// How many assignments there are at once.

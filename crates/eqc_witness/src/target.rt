@@ -1,5 +1,5 @@
 //! What a witness is looked for, and the assignments that are tried first.
-use eqc_graph::Literal;
+use eqc_xag::Literal;
 
 /// A literal that is to be true, and the variables over which its least assignment is looked for.
 #[derive(Clone, Copy)]

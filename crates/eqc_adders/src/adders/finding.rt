@@ -4,9 +4,9 @@ ghost use Rattle.std.specs.Prelude.{◌≡◌};
 ghost use Rattle.eqc_sums.specs.Forms.{Keeps};
 
 use crate::adders::{Adders, Block, is_degenerate};
-use eqc_graph::{Graph, Literal, node_of};
 use eqc_sums::Reduction;
 use eqc_sweep::Sweep;
+use eqc_xag::{Graph, Literal, node_of};
 use std::alloc::AllocError;
 
 /// In how many rounds carries are looked for.

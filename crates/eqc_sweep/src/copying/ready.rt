@@ -2,7 +2,7 @@
 //! believed of it.
 ghost use Rattle.std.specs.Prelude.{◌<◌, IfSome};
 
-use eqc_graph::{Graph, Literal, Node, node_of};
+use eqc_xag::{Graph, Literal, Node, node_of};
 use std::alloc::{AllocError, Global};
 use std::collections::BinaryHeap;
 

@@ -3,7 +3,7 @@ ghost use Rattle.std.specs.Prelude.{◌<◌};
 
 use crate::effort::{Effort, Tally};
 use crate::finder::hard::Hard;
-use eqc_search::{Answer, Budget, Decides};
+use eqc_cdcl::{Answer, Budget, Decides};
 
 /// Conflicts that there are at the start, in questions that take all that they may, and what each
 /// question adds.

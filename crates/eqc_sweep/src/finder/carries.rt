@@ -1,7 +1,7 @@
 //! Nodes that look like others. Nothing is believed of it.
 
 use crate::finder::Finder;
-use eqc_graph::{Literal, negated_if};
+use eqc_xag::{Literal, negated_if};
 
 impl Finder {
     /// The oldest literal that has a signature, whose first simulated value is this one, if there

@@ -1,7 +1,7 @@
 //! Counterexamples, until they are simulated.
 
 use crate::finder::patterns::Patterns;
-use eqc_graph::Graph;
+use eqc_xag::Graph;
 use std::alloc::{AllocError, Global};
 
 /// How many counterexamples a row has room for.

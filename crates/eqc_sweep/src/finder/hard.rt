@@ -1,6 +1,6 @@
 //! In which of two ways hard questions are asked.
 
-use eqc_search::Budget;
+use eqc_cdcl::Budget;
 
 /// A question is hard with so many conflicts.
 const HARD: u64 = 600;

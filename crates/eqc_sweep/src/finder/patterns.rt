@@ -10,7 +10,7 @@ use crate::finder::random::Random;
 use crate::finder::words::{
     TOGETHER, Words, share_of, shares_of, word_at, word_by, words_at, words_by, words_of,
 };
-use eqc_graph::{Graph, Literal, Node};
+use eqc_xag::{Graph, Literal, Node};
 use std::alloc::{AllocError, Global};
 
 /// How many rows of counterexamples there may be.

@@ -4,8 +4,8 @@ ghost use Rattle.std.specs.List.{All};
 ghost use Rattle.eqc_sweep.specs.Team.{IsAnswerIn, AreAnswersIn};
 
 use crate::finder::ask_both;
-use eqc_graph::{Graph, Literal};
-use eqc_search::{Answer, Budget, Search};
+use eqc_cdcl::{Answer, Budget, Search};
+use eqc_xag::{Graph, Literal};
 use std::alloc::{AllocError, Global};
 use std::sync::atomic::{AtomicU64, Ordering};
 use std::thread;

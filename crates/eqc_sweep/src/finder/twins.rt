@@ -6,8 +6,8 @@ ghost use Rattle.eqc_sweep.specs.Team.{IsAnswerIn, ArePlacedIn, IsAsked, IsTwin}
 use crate::finder::Finder;
 use crate::finder::account::{budget_of, conflicts_left};
 use crate::finder::team::{Answered, Question};
-use eqc_graph::{Graph, Literal};
-use eqc_search::Answer;
+use eqc_cdcl::Answer;
+use eqc_xag::{Graph, Literal};
 use std::alloc::{AllocError, Global};
 use std::thread::Threads;
 

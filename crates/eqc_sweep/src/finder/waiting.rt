@@ -5,8 +5,8 @@ ghost use Rattle.eqc_sweep.specs.Team.{IsMerge, IsAnswerIn, AreAnswersIn, ArePla
 
 use crate::finder::team::{Answered, Merge, Question, ask_all};
 use crate::finder::{CANDIDATES, Finder};
-use eqc_graph::{Graph, node_of};
-use eqc_search::{Answer, Search};
+use eqc_cdcl::{Answer, Search};
+use eqc_xag::{Graph, node_of};
 use std::alloc::{AllocError, Global};
 use std::thread::Threads;
 

@@ -1,6 +1,6 @@
 //! Words of 64 simulated values, one of each node in a row of patterns.
 
-use eqc_graph::{Literal, Node, is_negated, node_of};
+use eqc_xag::{Literal, Node, is_negated, node_of};
 
 /// So many words of a node lie together: they fill a line of a processor's cache.
 pub(crate) const TOGETHER: usize = 8;

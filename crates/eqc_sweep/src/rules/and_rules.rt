@@ -1,14 +1,14 @@
 //! Rules for a conjunction, over one and two levels. Each says what stands in its place, if it
 //! applies.
 ghost use Rattle.std.specs.Prelude.{ℕ, List, ◌&&◌, IfSome};
-ghost use Rattle.eqc_graph.specs.Graph.{differ, IsWithin, IsGraph};
+ghost use Rattle.eqc_xag.specs.Graph.{differ, IsWithin, IsGraph};
 ghost use Rattle.eqc_sweep.specs.Gates.{not_both, IsGate, Makes};
 ghost use Rattle.eqc_sweep.specs.Reducing.{StandsFor, HoldsWith, HoldsFor};
 
 use crate::reduced::Reduced;
 use crate::rules::gate::{Gate, gate_of};
 use crate::rules::relations::{are_opposite, excludes, implies};
-use eqc_graph::{Graph, Literal, Node, negated};
+use eqc_xag::{Graph, Literal, Node, negated};
 
 /// Of constants, of equal literals and of complements.
 fn of_itself(x: Literal, y: Literal) -> Option<Reduced>

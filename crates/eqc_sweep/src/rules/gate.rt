@@ -1,8 +1,8 @@
 //! What a literal is of its gate's operands.
-ghost use Rattle.eqc_graph.specs.Graph.{IsWithin};
+ghost use Rattle.eqc_xag.specs.Graph.{IsWithin};
 ghost use Rattle.eqc_sweep.specs.Gates.{IsGate};
 
-use eqc_graph::{Graph, Literal, Node, is_negated, negated_if, node_of};
+use eqc_xag::{Graph, Literal, Node, is_negated, negated_if, node_of};
 
 /// What a literal is of two others. The complement of a gate is a kind of its own, so the rules
 /// know of no complements.

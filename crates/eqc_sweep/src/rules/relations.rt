@@ -2,7 +2,7 @@
 ghost use Rattle.std.specs.Prelude.{IsTrue};
 ghost use Rattle.eqc_sweep.specs.Gates.{AreOpposite, Excludes, Implies};
 
-use eqc_graph::{Literal, negated};
+use eqc_xag::{Literal, negated};
 
 /// Whether two literals are complements of one another.
 pub(crate) fn are_opposite(x: Literal, y: Literal) -> bool

@@ -1,13 +1,13 @@
 //! Rules for a difference: what stands in its place, if one applies.
 ghost use Rattle.std.specs.Prelude.{ℕ, List, IfSome};
-ghost use Rattle.eqc_graph.specs.Graph.{differ, IsWithin, IsGraph};
+ghost use Rattle.eqc_xag.specs.Graph.{differ, IsWithin, IsGraph};
 ghost use Rattle.eqc_sweep.specs.Gates.{IsGate, Makes};
 ghost use Rattle.eqc_sweep.specs.Reducing.{StandsFor};
 
 use crate::reduced::Reduced;
 use crate::rules::gate::{Gate, gate_of};
 use crate::rules::relations::are_opposite;
-use eqc_graph::{Graph, Literal, Node, negated};
+use eqc_xag::{Graph, Literal, Node, negated};
 
 /// Of constants, of equal literals and of complements.
 fn of_itself(x: Literal, y: Literal) -> Option<Reduced>

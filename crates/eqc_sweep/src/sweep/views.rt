@@ -5,7 +5,7 @@ use crate::reduced::Reduced;
 use crate::rules::reduced;
 use crate::sweep::Sweep;
 use crate::table::order::ordered;
-use eqc_graph::{Literal, Node, negated, negated_if, node_of};
+use eqc_xag::{Literal, Node, negated, negated_if, node_of};
 
 impl Sweep {
     /// How many places there are for gates that were asked for.

@@ -1,7 +1,7 @@
 //! The one form of a gate under which it is looked up.
 ghost use Rattle.eqc_sweep.specs.Ordering.{IsFormOf, IsPlain};
 
-use eqc_graph::{Literal, Node, is_negated, negated_if};
+use eqc_xag::{Literal, Node, is_negated, negated_if};
 
 /// A literal without its complement.
 fn plain(x: Literal) -> u32

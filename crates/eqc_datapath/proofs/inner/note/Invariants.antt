@@ -1,6 +1,6 @@
 use Rattle.std.specs.Prelude.{◌≡◌, length, List}
-use Rattle.eqc_graph.specs.declared.node.Node.{Node}
-use Rattle.eqc_graph.specs.Graph.{IsWithin}
+use Rattle.eqc_xag.specs.declared.node.Node.{Node}
+use Rattle.eqc_xag.specs.Graph.{IsWithin}
 use Rattle.eqc_sweep.specs.Finding.{AreEqual}
 use Rattle.eqc_pair.specs.PairOf.{PairOf}
 use Rattle.eqc_gates.specs.Entering.{AreLiterals}

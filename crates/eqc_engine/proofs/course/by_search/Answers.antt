@@ -2,8 +2,8 @@ use Rattle.std.proofs.Common.{◌≡◌, true, Some, [], slice_index_or, subst}
 use Rattle.eqc_pair.specs.PairOf.{PairOf}
 use Rattle.eqc_compare.specs.Verdict.{differs_under}
 use Rattle.eqc_compare.specs.Comparing.{netlist_of, assumption_of}
-use Rattle.eqc_inside.specs.Searching.{IsSearched}
-use Rattle.eqc_inside.specs.declared.searching.Searched.TheVariants.{Open}
+use Rattle.eqc_fraig.specs.Searching.{IsSearched}
+use Rattle.eqc_fraig.specs.declared.searching.Searched.TheVariants.{Open}
 use Rattle.eqc_engine.proofs.course.by_search.Goals as goal
 
 pub note_seen-requires-clause-differs : goal.note_seen-requires-clause-differs

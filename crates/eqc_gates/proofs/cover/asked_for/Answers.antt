@@ -1,6 +1,6 @@
 use Rattle.std.proofs.Common.{refl, sym, ap, ◌∙◌, get_or, arith}
 use Rattle.eqc_netlist.specs.Cover.{allows}
-use Rattle.eqc_graph.specs.Graph.{literal_value}
+use Rattle.eqc_xag.specs.Graph.{literal_value}
 use Rattle.eqc_gates.proofs.LiteralLaws.{asked_for_none, asked_for_more, asked_for_still}
 use Rattle.eqc_gates.proofs.LiteralLaws.{asked_for_all}
 use Rattle.eqc_gates.proofs.cover.asked_for.Goals as goal

@@ -3,7 +3,7 @@ use Rattle.std.proofs.lemmas.List.{length-map}
 use Rattle.eqc_netlist.specs.Cover.{cover_value}
 use Rattle.eqc_cover.specs.Table.{table_value}
 use Rattle.eqc_cover.proofs.TableLaws.{all_open}
-use Rattle.eqc_graph.specs.Graph.{literal_value}
+use Rattle.eqc_xag.specs.Graph.{literal_value}
 use Rattle.eqc_build.specs.Building.{reference_of}
 use Rattle.eqc_build.specs.Steps.{value_at}
 use Rattle.eqc_gates.proofs.LiteralLaws.{value_as, made_as}

@@ -1,5 +1,5 @@
 use Rattle.std.specs.Prelude.{List}
-use Rattle.eqc_graph.specs.declared.node.Node.{Node}
+use Rattle.eqc_xag.specs.declared.node.Node.{Node}
 use Rattle.eqc_build.specs.Steps.{StepsOf}
 use Rattle.eqc_literals.specs.Literals.{IsInside}
 use Rattle.eqc_miter.proofs.entering.forget_unmarked.Given as goal

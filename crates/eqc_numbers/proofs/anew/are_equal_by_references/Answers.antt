@@ -1,6 +1,6 @@
 use Rattle.std.proofs.Common.{sym, subst, arith}
 use Rattle.std.proofs.lemmas.Result.{IfOk-weaker}
-use Rattle.eqc_graph.specs.Graph.{Extends}
+use Rattle.eqc_xag.specs.Graph.{Extends}
 use Rattle.eqc_sweep.specs.Copying.{AreCopies}
 use Rattle.eqc_sums.specs.Adding.{AreEqualWords}
 use Rattle.eqc_sums.proofs.GateLemmas.{extends_both}

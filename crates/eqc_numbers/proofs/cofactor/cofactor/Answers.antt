@@ -1,6 +1,6 @@
 use Rattle.std.proofs.Common.{◌≡◌, ℕ, ◌*◌, Bool, length, sym, ◌∙◌, ap, subst, arith}
 use Rattle.std.proofs.lemmas.List.{length_push}
-use Rattle.eqc_graph.specs.Graph.{literal_value, IsBelow, IsGraph}
+use Rattle.eqc_xag.specs.Graph.{literal_value, IsBelow, IsGraph}
 use Rattle.eqc_numbers.proofs.CasesLaws.{IsPartOf, part_more, part_whole}
 use Rattle.eqc_numbers.proofs.cofactor.cofactor.Goals as goal
 

@@ -1,5 +1,5 @@
 use Rattle.std.specs.Prelude.{◌≡◌, length}
-use Rattle.eqc_graph.specs.Graph.{IsGraph}
+use Rattle.eqc_xag.specs.Graph.{IsGraph}
 use Rattle.eqc_numbers.proofs.CasesLaws.{IsPartOf}
 use Rattle.eqc_numbers.proofs.cofactor.cofactor.Given as goal
 

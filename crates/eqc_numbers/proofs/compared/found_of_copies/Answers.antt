@@ -1,5 +1,5 @@
 use Rattle.std.proofs.Common.{arith}
-use Rattle.eqc_graph.proofs.GraphLemmas.{extends_itself}
+use Rattle.eqc_xag.proofs.GraphLemmas.{extends_itself}
 use Rattle.eqc_numbers.proofs.ShownLaws.{words_back}
 use Rattle.eqc_numbers.proofs.compared.found_of_copies.Goals as goal
 

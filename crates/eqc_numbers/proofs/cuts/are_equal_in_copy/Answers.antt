@@ -1,6 +1,6 @@
 use Rattle.std.proofs.Common.{subst, arith}
 use Rattle.std.proofs.lemmas.Result.{IfOk-weaker}
-use Rattle.eqc_graph.proofs.GraphLemmas.{extends_itself}
+use Rattle.eqc_xag.proofs.GraphLemmas.{extends_itself}
 use Rattle.eqc_sums.specs.Adding.{AreEqualWords}
 use Rattle.eqc_numbers.proofs.ShownLaws.{words_back}
 use Rattle.eqc_numbers.proofs.CutLaws.{words_uncut}

@@ -1,6 +1,6 @@
 use Rattle.std.proofs.Common.{◌≡◌, ℕ, ◌*◌, length, sym, ◌∙◌, ap, subst, arith}
 use Rattle.std.proofs.lemmas.List.{length_push}
-use Rattle.eqc_graph.specs.Graph.{literal_value, IsBelow}
+use Rattle.eqc_xag.specs.Graph.{literal_value, IsBelow}
 use Rattle.eqc_numbers.proofs.CutLaws.{IsCutTo, cut_more, cut_whole}
 use Rattle.eqc_numbers.proofs.cuts.cut_graph.Goals as goal
 

@@ -1,5 +1,5 @@
 use Rattle.std.specs.Prelude.{◌≡◌, length, List}
-use Rattle.eqc_graph.specs.declared.node.Node.{Node}
+use Rattle.eqc_xag.specs.declared.node.Node.{Node}
 use Rattle.eqc_sweep.specs.Copying.{AreCopies}
 use Rattle.eqc_numbers.specs.Copies.{AreCopiesOf}
 use Rattle.eqc_numbers.proofs.shown.copies.Given as goal

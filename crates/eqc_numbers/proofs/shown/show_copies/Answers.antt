@@ -1,6 +1,6 @@
 use Rattle.std.proofs.Common.{subst, arith}
 use Rattle.std.proofs.lemmas.Result.{IfOk-weaker}
-use Rattle.eqc_graph.specs.Graph.{Extends}
+use Rattle.eqc_xag.specs.Graph.{Extends}
 use Rattle.eqc_sums.specs.Adding.{AreEqualWords}
 use Rattle.eqc_sums.proofs.GateLemmas.{extends_both}
 use Rattle.eqc_numbers.proofs.ShownLaws.{words_back}

@@ -1,6 +1,6 @@
 use Rattle.std.proofs.Common.{ℕ, ◌/◌, Bool, List, refl, sym, subst}
-use Rattle.eqc_graph.specs.declared.node.Node.{Node}
-use Rattle.eqc_graph.specs.Graph.{literal_value, IsGraph}
+use Rattle.eqc_xag.specs.declared.node.Node.{Node}
+use Rattle.eqc_xag.specs.Graph.{literal_value, IsGraph}
 use Rattle.eqc_sums.specs.declared.term.Term.{Term}
 use Rattle.eqc_sums.specs.Forms.{bit, HasSum}
 use Rattle.eqc_sums.specs.Adding.{IsGateOf}

@@ -1,7 +1,7 @@
 use Rattle.std.proofs.Common.{◌+◌, ◌*◌, take, length, arith, subst, List}
 use Rattle.std.proofs.lemmas.List.{get_or_default, take_all}
-use Rattle.eqc_graph.specs.Graph.{literal_value}
-use Rattle.eqc_graph.proofs.GraphLemmas.{extends_itself, extends_along}
+use Rattle.eqc_xag.specs.Graph.{literal_value}
+use Rattle.eqc_xag.proofs.GraphLemmas.{extends_itself, extends_along}
 use Rattle.eqc_sums.specs.declared.term.Term.{Term}
 use Rattle.eqc_sums.specs.Forms.{terms_sum, HasSum}
 use Rattle.eqc_sums.proofs.PolynomialLemmas.{multiply_more, multiply_none}

@@ -1,5 +1,5 @@
 use Rattle.std.proofs.Common.{List, length, refl, sym, ap, subst, arith}
-use Rattle.eqc_graph.specs.Graph.{literal_value}
+use Rattle.eqc_xag.specs.Graph.{literal_value}
 use Rattle.eqc_sums.specs.declared.term.Term.{Term}
 use Rattle.eqc_sums.specs.Forms.{HasSum}
 use Rattle.eqc_sums.proofs.GateLemmas.{there}

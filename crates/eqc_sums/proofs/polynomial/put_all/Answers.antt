@@ -1,6 +1,6 @@
 use Rattle.std.proofs.Common.{◌+◌, ◌*◌, take, length, arith, subst, List}
 use Rattle.std.proofs.lemmas.List.{get_or_default, take_all}
-use Rattle.eqc_graph.specs.Graph.{literal_value}
+use Rattle.eqc_xag.specs.Graph.{literal_value}
 use Rattle.eqc_sums.specs.declared.term.Term.{Term}
 use Rattle.eqc_sums.specs.Forms.{terms_sum, HasSum}
 use Rattle.eqc_sums.proofs.PolynomialLemmas.{put_more, put_none}

@@ -1,7 +1,7 @@
 use Rattle.std.proofs.Common.{ℕ, ◌+◌, ◌*◌, Bool, List, take}
 use Rattle.std.specs.List.{All}
-use Rattle.eqc_graph.specs.declared.node.Node.{Node}
-use Rattle.eqc_graph.specs.Graph.{literal_value, IsWithin}
+use Rattle.eqc_xag.specs.declared.node.Node.{Node}
+use Rattle.eqc_xag.specs.Graph.{literal_value, IsWithin}
 use Rattle.eqc_sums.specs.Forms.{terms_sum, HasSum}
 use Rattle.eqc_sums.proofs.polynomial.put_all.Given as goal
 

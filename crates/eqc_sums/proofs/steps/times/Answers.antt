@@ -1,6 +1,6 @@
 use Rattle.std.proofs.Common.{length, arith}
 use Rattle.std.proofs.lemmas.List.{get_or_default}
-use Rattle.eqc_graph.proofs.GraphLemmas.{extends_itself, extends_along}
+use Rattle.eqc_xag.proofs.GraphLemmas.{extends_itself, extends_along}
 use Rattle.eqc_sums.proofs.StepLemmas.{times_more, times_all, times_none}
 use Rattle.eqc_sums.proofs.steps.times.Goals as goal
 

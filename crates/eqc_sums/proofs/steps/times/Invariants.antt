@@ -1,5 +1,5 @@
 use Rattle.std.proofs.Common.{ℕ, ◌+◌, ◌*◌, Bool, take}
-use Rattle.eqc_graph.specs.Graph.{literal_value, Extends}
+use Rattle.eqc_xag.specs.Graph.{literal_value, Extends}
 use Rattle.eqc_sums.specs.Forms.{bit, terms_sum, HasSum}
 use Rattle.eqc_sums.proofs.steps.times.Given as goal
 

@@ -1,6 +1,6 @@
 use Rattle.std.proofs.Common.{ℕ, subst, arith}
 use Rattle.std.proofs.lemmas.List.{get_or_default}
-use Rattle.eqc_graph.specs.Graph.{IsWithin}
+use Rattle.eqc_xag.specs.Graph.{IsWithin}
 use Rattle.eqc_sums.proofs.words.are_within.Goals as goal
 
 pub returns : goal.returns

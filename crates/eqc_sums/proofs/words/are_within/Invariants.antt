@@ -1,5 +1,5 @@
 use Rattle.std.proofs.Common.{ℕ, ◌<◌, get_or}
-use Rattle.eqc_graph.specs.Graph.{IsWithin}
+use Rattle.eqc_xag.specs.Graph.{IsWithin}
 use Rattle.eqc_sums.proofs.words.are_within.Given as goal
 
 abbrev pub invariant-loop-literal : goal.invariant-loop-literal

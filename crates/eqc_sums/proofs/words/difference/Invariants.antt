@@ -1,7 +1,7 @@
 use Rattle.std.proofs.Common.{◌≡◌, ℕ, ◌+◌, ◌-◌, ◌*◌, ◌%◌, ◌^◌, ◌<◌, Bool, List, length, take}
 use Rattle.std.specs.List.{All}
-use Rattle.eqc_graph.specs.declared.node.Node.{Node}
-use Rattle.eqc_graph.specs.Graph.{IsWithin}
+use Rattle.eqc_xag.specs.declared.node.Node.{Node}
+use Rattle.eqc_xag.specs.Graph.{IsWithin}
 use Rattle.eqc_sums.specs.Forms.{terms_sum}
 use Rattle.eqc_sums.specs.Adding.{number}
 use Rattle.eqc_sums.proofs.words.difference.Given as goal

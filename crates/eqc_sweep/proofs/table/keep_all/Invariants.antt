@@ -1,5 +1,5 @@
 use Rattle.std.proofs.Common.{List}
-use Rattle.eqc_graph.specs.declared.node.Node.{Node}
+use Rattle.eqc_xag.specs.declared.node.Node.{Node}
 use Rattle.eqc_sweep.specs.Known.{AreKnown}
 use Rattle.eqc_sweep.proofs.table.keep_all.Given as goal
 

@@ -2,7 +2,7 @@
 
 use crate::finder::patterns::Patterns;
 use crate::finder::words::{TOGETHER, Words, shares_of, words_of};
-use eqc_graph::Literal;
+use eqc_xag::Literal;
 
 /// The words of the sum of literals in a block of rows.
 #[inline(always)]

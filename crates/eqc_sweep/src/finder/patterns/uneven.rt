@@ -2,7 +2,7 @@
 //! carries go far.
 
 use crate::finder::patterns::Patterns;
-use eqc_graph::{Graph, Node};
+use eqc_xag::{Graph, Node};
 use std::alloc::{AllocError, Global};
 
 /// So many kinds of rows there are: in each second one inputs are as the ones before them, and in

@@ -1,4 +1,4 @@
-use Rattle.eqc_clause.specs.Clauses.{IsRefuted}
+use Rattle.eqc_rup.specs.Clauses.{IsRefuted}
 use Rattle.eqc_witness.proofs.ConeLemmas.{refuted_root}
 use Rattle.eqc_witness.proofs.completion.complete.Goals as goal
 

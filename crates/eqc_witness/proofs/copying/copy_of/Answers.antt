@@ -1,5 +1,5 @@
 use Rattle.std.proofs.Common.{◌∙◌, ap, get_or, arith}
-use Rattle.eqc_graph.specs.Graph.{literal_value, differ}
+use Rattle.eqc_xag.specs.Graph.{literal_value, differ}
 use Rattle.eqc_witness.proofs.CopyLemmas.{copy_in}
 use Rattle.eqc_witness.proofs.copying.copy_of.Goals as goal
 

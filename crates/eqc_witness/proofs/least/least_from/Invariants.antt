@@ -1,5 +1,5 @@
 use Rattle.std.proofs.Common.{◌≡◌, true, length, take}
-use Rattle.eqc_clause.specs.Clauses.{IsSound}
+use Rattle.eqc_rup.specs.Clauses.{IsSound}
 use Rattle.eqc_witness.specs.Cones.{holds_under}
 use Rattle.eqc_witness.proofs.BeginningLemmas.{IsBegun}
 use Rattle.eqc_witness.proofs.least.least_from.Given as goal

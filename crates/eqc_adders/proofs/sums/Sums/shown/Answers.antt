@@ -1,6 +1,6 @@
 use Rattle.std.proofs.Common.{◌≡◌, ℕ, Bool, List, IsTrue, subst, ◌∙◌, rules}
-use Rattle.eqc_graph.specs.declared.node.Node.{Node}
-use Rattle.eqc_graph.specs.Graph.{IsGraph}
+use Rattle.eqc_xag.specs.declared.node.Node.{Node}
+use Rattle.eqc_xag.specs.Graph.{IsGraph}
 use Rattle.eqc_sums.specs.declared.form.Form.{Form}
 use Rattle.eqc_sums.specs.Forms.{form_value}
 use Rattle.eqc_sums.proofs.WordLemmas.{concluded}

@@ -1,5 +1,5 @@
 use Rattle.std.proofs.Common.{refl}
-use Rattle.eqc_graph.specs.Graph.{literal_value}
+use Rattle.eqc_xag.specs.Graph.{literal_value}
 use Rattle.eqc_sums.proofs.FormLemmas.{added_none}
 use Rattle.eqc_sums.proofs.form.Form.add_all.Goals as goal
 

@@ -1,5 +1,5 @@
 use Rattle.std.proofs.Common.{◌≡◌, ℕ, ◌≤◌, Bool, List, length}
-use Rattle.eqc_graph.specs.declared.node.Node.{Node}
+use Rattle.eqc_xag.specs.declared.node.Node.{Node}
 use Rattle.eqc_sums.specs.Forms.{form_value}
 use Rattle.eqc_sums.proofs.form.Form.reach.Given as goal
 

@@ -1,5 +1,5 @@
 use Rattle.std.proofs.Common.{ap, length, ◌∙◌, List}
-use Rattle.eqc_graph.specs.declared.node.Node.{Node}
+use Rattle.eqc_xag.specs.declared.node.Node.{Node}
 use Rattle.eqc_sums.proofs.KeepLemmas.{keeps_stepped}
 use Rattle.eqc_sums.proofs.reduction.Reduction.add_step.Goals as goal
 

@@ -1,5 +1,5 @@
 use Rattle.std.proofs.Common.{◌≡◌, ℕ, List, length, subst, sym}
-use Rattle.eqc_graph.specs.declared.node.Node.{Node}
+use Rattle.eqc_xag.specs.declared.node.Node.{Node}
 use Rattle.eqc_sweep.specs.Known.{IsLiteralOf}
 use Rattle.eqc_sweep.specs.Sweeping.{HasValueOf}
 use Rattle.eqc_sweep.proofs.SweepLemmas.{value_known, literal_new}

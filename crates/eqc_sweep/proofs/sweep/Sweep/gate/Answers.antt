@@ -1,6 +1,6 @@
 use Rattle.std.proofs.Common.{List, length, subst}
-use Rattle.eqc_graph.specs.declared.node.Node.{Node}
-use Rattle.eqc_graph.specs.Graph.{IsBelow}
+use Rattle.eqc_xag.specs.declared.node.Node.{Node}
+use Rattle.eqc_xag.specs.Graph.{IsBelow}
 use Rattle.eqc_sweep.proofs.sweep.Sweep.gate.Goals as goal
 
 pub enter-requires : goal.enter-requires

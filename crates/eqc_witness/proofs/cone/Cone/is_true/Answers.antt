@@ -1,5 +1,5 @@
 use Rattle.std.proofs.Common.{◌∙◌, ap, arith}
-use Rattle.eqc_graph.specs.Graph.{value_among}
+use Rattle.eqc_xag.specs.Graph.{value_among}
 use Rattle.eqc_witness.specs.Cones.{values_at}
 use Rattle.eqc_witness.proofs.ValueLemmas.{values_more}
 use Rattle.eqc_witness.proofs.cone.Cone.is_true.Goals as goal

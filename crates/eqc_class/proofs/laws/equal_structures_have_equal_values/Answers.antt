@@ -1,5 +1,0 @@
-use Rattle.eqc_class.proofs.ValueLaws.{equal_values}
-use Rattle.eqc_class.proofs.laws.equal_structures_have_equal_values.Goals as goal
-
-pub returns : goal.returns
-returns c = equal_values

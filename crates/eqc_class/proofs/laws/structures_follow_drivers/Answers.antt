@@ -1,5 +1,0 @@
-use Rattle.eqc_class.proofs.StructureLaws.{structure_follows}
-use Rattle.eqc_class.proofs.laws.structures_follow_drivers.Goals as goal
-
-pub returns : goal.returns
-returns c = structure_follows

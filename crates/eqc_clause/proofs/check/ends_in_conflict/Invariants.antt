@@ -1,6 +1,0 @@
-use Rattle.eqc_clause.specs.Checking.{LeadsTo}
-use Rattle.eqc_clause.proofs.check.ends_in_conflict.Given as goal
-
--- where one is true of those that are taken to be false, one of the first is
-abbrev pub invariant-hints : goal.invariant-hints
-invariant-hints l = LeadsTo l.graph l.falsified l.fn.falsified

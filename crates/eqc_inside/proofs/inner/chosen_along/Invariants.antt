@@ -1,5 +1,0 @@
-use Rattle.eqc_inside.proofs.AlongLaws.{IsAlong}
-use Rattle.eqc_inside.proofs.inner.chosen_along.Given as goal
-
-abbrev pub invariant-loop-k : goal.invariant-loop-k
-invariant-loop-k l = IsAlong l.fn.steps.pair l.more.items l.k

@@ -1,6 +1,0 @@
-use Rattle.std.proofs.Common.{refl, arith}
-use Rattle.eqc_members.proofs.TicketCounts.{opens}
-use Rattle.eqc_members.proofs.ticket.open.Goals as goal
-
-pub of_words-requires : goal.of_words-requires
-of_words-requires c = (refl, opens c.args.key (omega arith))

@@ -1,6 +1,0 @@
-use Rattle.eqc_clause.specs.Clauses.{IsSound}
-use Rattle.eqc_search.proofs.search.Search.run.Given as goal
-
--- the store is sound
-abbrev pub invariant-rounds : goal.invariant-rounds
-invariant-rounds l = IsSound l.graph l.self
