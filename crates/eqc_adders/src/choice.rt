@@ -6,9 +6,9 @@ ghost use Rattle.std.specs.Prelude.{◌≡◌};
 use crate::adders::Adders;
 use crate::moves::Move;
 use crate::place::{Place, minus, towards};
-use eqc_xag::{Literal, node_of};
 use eqc_sums::Reduction;
 use eqc_sweep::Sweep;
+use eqc_xag::{Literal, node_of};
 use std::alloc::{AllocError, Global};
 
 /// A node isn't taken for a sum, or not for a carry; was asked about.
@@ -348,14 +348,21 @@ impl Choice {
         if self.has(place.node, NO_CARRY) {
             return None;
         }
-        if place.half().is_some() && place.adders.is_carry(place.node) {
-            if let Some(other) = self.like(sweep, place.node) {
-                if node_of(other) == 0 {
-                    return self.alike(sweep, place);
-                }
-            }
+        if self.may_be_constant(sweep, place) {
+            return self.alike(sweep, place);
         }
         self.any_carry(place)
+    }
+
+    /// Whether a carry looks like a constant.
+    fn may_be_constant(&self, sweep: &Sweep, place: &Place<'_>) -> bool {
+        if place.half().is_none() || !place.adders.is_carry(place.node) {
+            return false;
+        }
+        match self.like(sweep, place.node) {
+            Some(other) => node_of(other) == 0,
+            None => false,
+        }
     }
 
     /// A carry of a sum that is used, as long as it may be taken.
@@ -377,7 +384,7 @@ impl Choice {
     }
 
     /// The next literal that a node looks like and about which it wasn't asked.
-    fn like(&self, sweep: &Sweep, node: u32) -> Option<u32> {
+    fn like(&self, sweep: &Sweep, node: u32) -> Option<Literal> {
         let mut but = [node; 8];
         let mut count: usize = 1;
         for (later, earlier) in self.asked.as_slice() {

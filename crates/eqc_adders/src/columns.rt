@@ -11,9 +11,9 @@ use crate::adders::Adders;
 use crate::chosen::{Chosen, MOST_CHOSEN};
 use crate::column::{Column, Item, Likely};
 use crate::place::minus;
-use eqc_xag::{Graph, Literal, Node, node_of};
 use eqc_sums::{Form, Reduction};
 use eqc_sweep::{Sweep, below};
+use eqc_xag::{Graph, Literal, Node, node_of};
 use std::alloc::{AllocError, Global};
 
 /// The literal that is always true.
@@ -236,7 +236,7 @@ impl Columns {
     pub(crate) fn new(
         alloc: Global,
         graph: &Graph,
-        kept: (&[u32], bool),
+        kept: (&[Literal], bool),
         lowest: u32,
         looks: u64,
     ) -> Result<Columns, AllocError> {

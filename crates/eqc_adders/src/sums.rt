@@ -9,9 +9,9 @@ use crate::choice::Choice;
 use crate::columns::Columns;
 use crate::inner::{Lookalikes, inner_words};
 use crate::moves::{Move, apply};
-use eqc_xag::Literal;
 use eqc_sums::Reduction;
 use eqc_sweep::{Effort, Sweep};
+use eqc_xag::Literal;
 use std::alloc::{AllocError, Global};
 
 /// Which attempts there are to show a pair of words equal.
@@ -44,7 +44,7 @@ pub struct Limits {
 
 /// What there may be for each hundred thousand conflicts.
 const USUAL: Limits = Limits {
-    steps: 20_000,
+    steps: 60_000,
     terms: 20_000,
     question: 3_000,
     conflicts: 100_000,
@@ -98,7 +98,7 @@ const MEETINGS: u64 = 5;
 const LARGE: u32 = 16_000;
 
 /// An attempt that may well be in vain has this part of the looks.
-const BRIEF: u64 = 4;
+const BRIEF: u64 = 2;
 
 /// The first one has this part of a pair's conflicts, and so have those in which one word is added up
 /// as the other one is: what they show they mostly show with few questions.
@@ -189,7 +189,7 @@ fn rebuild(
     choice: &mut Choice,
     reduction: &mut Reduction,
     adders: &mut Adders,
-    kept: (&[u32], bool),
+    kept: (&[Literal], bool),
     limits: Limits,
 ) -> Result<(), AllocError>
     ensures { Keeps reduction.old.sweep reduction.new.sweep reduction.old.form reduction.new.form }
@@ -214,7 +214,7 @@ fn reduce(
     choice: &mut Choice,
     reduction: &mut Reduction,
     adders: &mut Adders,
-    words: (&[u32], &[u32], Way),
+    words: (&[Literal], &[Literal], Way),
     limits: Limits,
 ) -> Result<(), AllocError>
     ensures { Keeps reduction.old.sweep reduction.new.sweep reduction.old.form reduction.new.form }
@@ -306,14 +306,14 @@ impl Sums {
             conflicts: limits.conflicts / FIRST,
             ..limits
         };
+        if self.is_of_several(ps) && self.attempt_briefly(ps, qs, limits)? {
+            return Ok(true);
+        }
         if self.attempt(ps, qs, (FEW, false), brief)? {
             return Ok(true);
         }
         if limits.attempts == Attempts::First {
             return Ok(false);
-        }
-        if self.is_of_several(ps) && self.attempt_briefly(ps, qs, limits)? {
-            return Ok(true);
         }
         self.take_kind((LEAST, true), limits)?;
         if self.shown_as_one(ps, qs, brief)? {

@@ -18,10 +18,10 @@ use eqc_adders::{Limits, Sums};
 use eqc_build::Steps;
 use eqc_compare::{Alike, Progress, Stage};
 use eqc_gates::needed_within;
-use eqc_xag::Literal;
 use eqc_literals::{CHARACTERS, Owned, entered, literal_of, mark, moved};
 use eqc_numbers::{Shape, copy_shaped};
 use eqc_sweep::{Effort, Sweep};
+use eqc_xag::Literal;
 use std::alloc::{AllocError, Global};
 
 /// The most conflicts of a question of the sweep under the sums.
@@ -32,6 +32,9 @@ const CHEAP: u64 = 30;
 const EACH_NODE: u64 = 10_000;
 
 const WHOLE: u64 = 60_000_000;
+
+/// There are so many steps at most in each attempt, or as many as the graph has nodes.
+const STEPS: u32 = 20_000;
 
 /// So many words that aren't shown equal end a turn.
 pub(crate) const MOST_FAILED: u32 = 3;
@@ -45,6 +48,7 @@ pub fn limits_in(nodes: u32, conflicts: u64) -> Limits {
     let limits = Limits::of(conflicts);
     let work = u64::from(nodes) * EACH_NODE + WHOLE;
     Limits {
+        steps: limits.steps.min(nodes.max(STEPS)),
         work: limits.work.min(work),
         ..limits
     }
@@ -238,7 +242,7 @@ fn literals_of_all(
     literals: &[Option<Literal>],
     words: &[Vec<usize>],
     side: Side,
-) -> Result<Vec<u32>, AllocError>
+) -> Result<Vec<Literal>, AllocError>
     requires lawful { AreSteps steps.now }
     requires outputs { All (λ w. All (λ o. o < length steps.now.pair.first.outputs) w.items) words.now }
 {

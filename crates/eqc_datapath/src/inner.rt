@@ -24,13 +24,13 @@ use eqc_adders::Lookalikes;
 use eqc_build::Steps;
 use eqc_compare::{Progress, Stage};
 use eqc_gates::needed_within;
-use eqc_xag::{Graph, Literal, negated, node_of};
 use eqc_literals::{CHARACTERS, Owned, entered};
 use eqc_numbers::{
-    Words, are_equal_anew, are_equal_by_arrays, are_equal_in_cases, are_shown_equal,
-    find_lookalikes,
+    Words, are_equal_anew, are_equal_as_made, are_equal_by_arrays, are_equal_in_cases,
+    are_shown_equal, find_lookalikes,
 };
 use eqc_sweep::{Effort, Sweep};
+use eqc_xag::{Graph, Literal, negated, node_of};
 use std::alloc::{AllocError, Global};
 
 #[tactic(auto, using(crate::proofs::InnerLaws::stands, crate::proofs::InnerLaws::stands_turned))]
@@ -116,6 +116,7 @@ fn is_shown(scope: &Scope<'_>, graph: &Graph, word: &Lookalikes) -> Result<bool,
         limits: scope.look.limits(graph.len()),
     };
     match scope.look.kind {
+        Kind::AsMade => are_equal_as_made(&words, graph),
         Kind::Anew => are_equal_anew(&words, graph),
         Kind::Arrays => are_equal_by_arrays(&words, graph),
         Kind::Cases => are_equal_in_cases(&words, graph),

@@ -18,6 +18,9 @@ const PART: u32 = 8;
 /// Which words are looked for.
 #[derive(Clone, Copy, PartialEq, Eq, Debug)]
 pub enum Kind {
+    /// Words of outputs that are sums of products, added up briefly: those that are as they were
+    /// made mostly take no more, and no sweep before.
+    AsMade,
     /// Words inside, until the first one isn't shown equal at once, in a graph that isn't large: a
     /// run that has none takes little longer.
     Short,
@@ -47,7 +50,7 @@ impl Look {
     pub fn is_of_outputs(self) -> bool {
         match self.kind {
             Kind::Short | Kind::Long => false,
-            Kind::Anew | Kind::Arrays | Kind::Cases => true,
+            Kind::AsMade | Kind::Anew | Kind::Arrays | Kind::Cases => true,
         }
     }
 
@@ -55,14 +58,14 @@ impl Look {
     pub fn count(self) -> u32 {
         match self.kind {
             Kind::Short | Kind::Long => LOOKS,
-            Kind::Anew | Kind::Arrays | Kind::Cases => 1,
+            Kind::AsMade | Kind::Anew | Kind::Arrays | Kind::Cases => 1,
         }
     }
 
     /// In how many turns two words are tried.
     pub(crate) fn turns(self) -> u32 {
         match self.kind {
-            Kind::Short | Kind::Anew | Kind::Arrays | Kind::Cases => 1,
+            Kind::Short | Kind::AsMade | Kind::Anew | Kind::Arrays | Kind::Cases => 1,
             Kind::Long => TURNS,
         }
     }
@@ -70,7 +73,7 @@ impl Look {
     /// So many words that aren't shown equal end it.
     pub(crate) fn most_failed(self) -> u32 {
         match self.kind {
-            Kind::Short | Kind::Cases => 1,
+            Kind::Short | Kind::AsMade | Kind::Cases => 1,
             Kind::Long | Kind::Anew | Kind::Arrays => MOST_FAILED,
         }
     }
@@ -79,7 +82,7 @@ impl Look {
     pub fn most_nodes(self) -> u32 {
         match self.kind {
             Kind::Short | Kind::Cases => FEW_NODES,
-            Kind::Long | Kind::Anew | Kind::Arrays => MOST_NODES,
+            Kind::Long | Kind::AsMade | Kind::Anew | Kind::Arrays => MOST_NODES,
         }
     }
 
@@ -94,7 +97,7 @@ impl Look {
                 work: limits.work / u64::from(PART),
                 ..limits
             },
-            Kind::Long | Kind::Anew | Kind::Arrays | Kind::Cases => limits,
+            Kind::Long | Kind::AsMade | Kind::Anew | Kind::Arrays | Kind::Cases => limits,
         }
     }
 }

@@ -5,7 +5,7 @@
 //! |---|---|---|---|
 //! | 1 | equal structure | `alike_or_nothing` | outputs whose two signals have one structure are equal |
 //! | 2 | diagrams on one thread; in the larger room too where there are very many inputs and many outputs began | `first_diagrams` | all outputs, where they fit |
-//! | 3 | short rounds of sweeping, and a short search that refutes after each | `Inside::of`, `sweep_more`, `ask_while_found` | outputs that are found equal |
+//! | 3 | a look at words of outputs as they were made, which takes little; short rounds of sweeping, and a short search that refutes after each | `by_words_as_made`, `sweep_first`, `sweep_more`, `ask_while_found` | outputs that are shown or found equal |
 //! | 4 | a short search, where simulation saw an output differ | `by_search` | all outputs, or all up to the first that differs |
 //! | 5 | words of outputs that are equal to products made anew, or add up the same or what an array does, a short look for words inside that do, and for outputs that do in each case of what inputs choose | `by_sums`, `by_inner_sums` | outputs whose words are shown equal, and the same as 3 |
 //! | 6 | 2 in a larger room | `in_room` | the outputs left, where they fit |
@@ -19,9 +19,9 @@
 //! | 14 | longer searches | `by_search` | the same as 4 |
 //! | 15 | diagrams by all workers once more, where 13 found some outputs equal | `in_room` | the outputs left, where they fit |
 //!
-//! `known_by_structure` has 1, `decide_pair` begins with 2, `behind_first` with 3, and
-//! `by_sweeping` goes on from there with what `ATTEMPTS` lists: `by_short_rounds` has 3 and 4,
-//! `by_long_rounds` 9 to 11, and `by_longer_searches` 13 to 15. With few nodes or without conflicts
+//! `known_by_structure` has 1, `decide_pair` begins with 2, `behind_first` enters the graph that 3
+//! begins with, and `by_sweeping` goes on from there with what `ATTEMPTS` lists: `by_short_rounds`
+//! has the rounds of 3, and 4, `by_long_rounds` 9 to 11, and `by_longer_searches` 13 to 15. With few nodes or without conflicts
 //! 11 follows 2, and nothing else does.
 ghost use Rattle.std.specs.Prelude.{◌≡◌, None, length, IfOk, IfErr};
 ghost use Rattle.eqc_compare.specs.Alike.{IsKnown};
@@ -312,6 +312,31 @@ fn sweep_more<R: Threads + Wait + Sync, P: Progress<R> + Sync>(
     }
 }
 
+/// Sweeps what was entered in a first round: the outputs that it finds equal become known.
+fn sweep_first<R: Threads + Wait + Sync, P: Progress<R> + Sync>(
+    comparison: &Comparison<'_, R, P>,
+    inside: &mut Inside<'_>,
+    alike: &mut Alike,
+    rounds: &Rounds,
+)
+    requires { IsKnown inside.old alike.old }
+    ensures pair { inside.new ≡ inside.old }
+    ensures known { IsKnown inside.new alike.new }
+    ensures kept { KeepsMarks inside.old alike.old.equal.items alike.new.equal.items }
+{
+    let Comparison {
+        rt,
+        alloc,
+        watch,
+        ..
+    } = *comparison;
+    // Where memory is refused what was entered stays.
+    let _ = inside.sweep_first(rt, alloc, alike, rounds, watch);
+    if let Ok(more) = inside.known(alloc, alike) {
+        *alike = more;
+    }
+}
+
 /// The report over what short rounds of sweeping find equal, which becomes known: by short searches
 /// where simulation saw an output differ.
 fn by_short_rounds<R: Threads + Wait + Sync, P: Progress<R> + Sync>(
@@ -331,9 +356,8 @@ fn by_short_rounds<R: Threads + Wait + Sync, P: Progress<R> + Sync>(
     ensures seen { IsLeftOf comparison.now.pair.now left.old → IsLeftOf comparison.now.pair.now left.new }
     ensures told { KeepsTold left.old left.new }
 {
-    if let Ok(more) = inside.known(comparison.alloc, alike) {
-        *alike = more;
-    }
+    comparison.watch.stage(comparison.rt, Stage::Sweeping);
+    sweep_first(comparison, inside, alike, rounds);
     rounds.count(inside.tally());
     ask_while_found(comparison, inside, alike);
     sweep_more(comparison, inside, alike, rounds);
@@ -391,6 +415,62 @@ fn by_sums<R: Threads + Wait + Sync, P: Progress<R> + Sync>(
     of_known(comparison, alike)
 }
 
+/// Whether words that are looked for are shown equal by what they add up to. Then the graph is made
+/// anew, with one of two signals in place of both, and the outputs that are equal so become known.
+fn take_words<R: Threads + Wait + Sync, P: Progress<R> + Sync>(
+    comparison: &Comparison<'_, R, P>,
+    inside: &mut Inside<'_>,
+    alike: &mut Alike,
+    rounds: &Rounds,
+    look: Look,
+) -> bool
+    requires inside { inside.old ≡ comparison.now.pair.now }
+    requires known { IsKnown inside.old alike.old }
+    ensures pair { inside.new ≡ inside.old }
+    ensures known { IsKnown inside.new alike.new }
+    ensures kept { KeepsMarks inside.old alike.old.equal.items alike.new.equal.items }
+{
+    let Comparison {
+        rt,
+        alloc,
+        watch,
+        ..
+    } = *comparison;
+    let shown = inside.add_up_inside(rt, alloc, alike, look, watch);
+    if !matches!(shown, Ok(true)) {
+        return false;
+    }
+    // Where memory is refused the graph is as it was.
+    let _ = inside.begin_again(alloc, alike, rounds);
+    if let Ok(more) = inside.known(alloc, alike) {
+        *alike = more;
+    }
+    true
+}
+
+/// The report where words of outputs are shown equal before anything is swept, as products as they
+/// were made mostly are.
+fn by_words_as_made<R: Threads + Wait + Sync, P: Progress<R> + Sync>(
+    comparison: &Comparison<'_, R, P>,
+    inside: &mut Inside<'_>,
+    alike: &mut Alike,
+    rounds: &Rounds,
+) -> Result<Report, Stop>
+    requires inside { inside.old ≡ comparison.now.pair.now }
+    requires known { IsKnown comparison.now.pair.now alike.old }
+    ensures inside { inside.new ≡ inside.old }
+    ensures known { IsKnown comparison.now.pair.now alike.new }
+    ensures kept { KeepsMarks comparison.now.pair.now alike.old.equal.items alike.new.equal.items }
+    ensures report { IfOk result (λ report. report_of report ≡ pair_report comparison.now.options.now.every comparison.now.pair.now) }
+{
+    let look = Look {
+        kind: Kind::AsMade,
+        conflicts: u64::from(comparison.options.conflicts),
+    };
+    let _ = take_words(comparison, inside, alike, rounds, look);
+    of_known(comparison, alike)
+}
+
 /// The report where words that are looked for, inside the netlists or of outputs in cases, are shown
 /// equal by what they add up to, and what depends on them is swept anew in a round, with one of two
 /// signals in place of both. The outputs found equal so become known.
@@ -418,17 +498,14 @@ fn by_inner_sums<R: Threads + Wait + Sync, P: Progress<R> + Sync>(
     if known_outcome(alloc, pair, &alike.equal).is_some() {
         return of_known(comparison, alike);
     }
-    let shown = inside.add_up_inside(rt, alloc, alike, look, watch);
-    if !matches!(shown, Ok(true)) {
+    if !take_words(comparison, inside, alike, rounds, look) {
         return Err(Stop::NodeLimit);
     }
-    watch.stage(rt, Stage::Sweeping);
-    // Where memory is refused the graph is as it was.
-    let _ = inside.begin_again(rt, alloc, alike, rounds, watch);
-    if let Ok(more) = inside.known(alloc, alike) {
-        *alike = more;
+    if known_outcome(alloc, pair, &alike.equal).is_none() {
+        watch.stage(rt, Stage::Sweeping);
+        sweep_first(comparison, inside, alike, rounds);
+        ask_while_found(comparison, inside, alike);
     }
-    ask_while_found(comparison, inside, alike);
     of_known(comparison, alike)
 }
 
@@ -518,6 +595,8 @@ fn by_longer_searches<R: Threads + Wait + Sync, P: Progress<R> + Sync>(
 /// What is tried of a pair that the first room left open.
 #[derive(Clone, Copy)]
 enum Attempt {
+    /// Words of outputs that are as they were made.
+    WordsAsMade,
     ShortRounds,
     WordsOfOutputs,
     /// Words of outputs or inside, of one kind.
@@ -535,6 +614,7 @@ enum Attempt {
 
 /// All attempts, in their order.
 static ATTEMPTS: &[Attempt] = &[
+    Attempt::WordsAsMade,
     Attempt::ShortRounds,
     Attempt::Words(Kind::Anew),
     Attempt::Words(Kind::Arrays),
@@ -579,6 +659,7 @@ fn by_attempt<R: Threads + Wait + Sync, P: Progress<R> + Sync>(
 {
     let rounds = &mut course.rounds;
     match attempt {
+        Attempt::WordsAsMade => by_words_as_made(comparison, inside, alike, rounds),
         Attempt::ShortRounds => by_short_rounds(comparison, inside, alike, rounds, left),
         Attempt::WordsOfOutputs => by_sums(comparison, inside, alike),
         Attempt::Words(kind) => {
@@ -659,7 +740,7 @@ fn behind_first<R: Threads + Wait + Sync, P: Progress<R> + Sync>(
     watch.stage(rt, Stage::Sweeping);
     let conflicts = u64::from(options.conflicts);
     let rounds = Rounds::of(pair, conflicts, options.workers, options.every);
-    match Inside::of(rt, alloc, pair, alike, &rounds, watch) {
+    match Inside::of(alloc, pair, alike, &rounds) {
         Ok(inside) => {
             let mut inside = inside;
             by_sweeping(comparison, &mut inside, alike, rounds, left)

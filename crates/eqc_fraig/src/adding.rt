@@ -10,10 +10,10 @@ use eqc_adders::has_adders;
 use eqc_build::Steps;
 use eqc_compare::{Alike, Progress, is_settled};
 use eqc_datapath::{MOST_NODES, Task, Turn, add_open, limits_in};
-use eqc_xag::{Node, node_of};
 use eqc_literals::literal_of;
 use eqc_netlist::Name;
 use eqc_numbers::words_of;
+use eqc_xag::{Node, node_of};
 use std::alloc::{AllocError, Global};
 
 /// So often a graph of fewer nodes than `LARGE` is made of the words that are open, each time with
@@ -38,6 +38,8 @@ fn names<'a>(alloc: Global, outputs: &'a [Name]) -> Result<Vec<&'a str>, AllocEr
 pub(crate) enum Meant {
     /// Those of which half of what is open looks like bits of a sum at least.
     Sums,
+    /// The same in a graph in which nothing was simulated yet, so that no output is seen to differ.
+    SumsUnseen,
     All,
 }
 
@@ -60,10 +62,21 @@ impl<'a> Inside<'a> {
         self.is_sum(roots[0]) && self.is_sum(roots[1])
     }
 
+    /// Whether both signals of an output entered: those behind one that was seen to differ before
+    /// they did don't.
+    fn has_entered(&self, output: usize) -> bool
+        requires { output < length self.now.first.outputs }
+    {
+        let roots = self.steps.roots(output);
+        literal_of(&self.literals, roots[0]).is_some()
+            && literal_of(&self.literals, roots[1]).is_some()
+    }
+
     /// The part of a word that is to be shown equal: from its lowest output to its highest one that
     /// is open, below one that is seen to differ. Outputs below that are known to be equal are
     /// needed too, since carries come from there. It is empty where sums are meant and less than
-    /// half of the open ones look like bits of a sum. Fails where memory is refused.
+    /// half of the open ones look like bits of a sum, and before anything is simulated also where
+    /// open ones didn't enter. Fails where memory is refused.
     fn open_part(
         &mut self,
         alloc: Global,
@@ -80,9 +93,10 @@ impl<'a> Inside<'a> {
         let mut end = 0;
         let mut open = 0u32;
         let mut sums = 0u32;
+        let mut is_left = false;
         for k in 0..word.len() {
             let output = word[k];
-            if self.is_seen_to_differ(output) {
+            if meant != Meant::SumsUnseen && self.is_seen_to_differ(output) {
                 break;
             }
             part.push(output)?;
@@ -90,9 +104,10 @@ impl<'a> Inside<'a> {
                 end = part.len();
                 open = open.saturating_add(1);
                 sums = sums.saturating_add(u32::from(self.are_sums(output)));
+                is_left |= meant == Meant::SumsUnseen && !self.has_entered(output);
             }
         }
-        let is_left = meant == Meant::Sums && sums < open / 2;
+        is_left |= meant != Meant::All && sums < open / 2;
         part.truncate(if is_left { 0 } else { end });
         Ok(part)
     }

@@ -1,4 +1,5 @@
-//! How the graph of a pair begins: the steps that its outputs need enter, and are swept.
+//! How the graph of a pair begins: the steps that its outputs need enter, and are swept in a first
+//! round.
 ghost use Rattle.std.specs.Prelude.{◌≡◌, IfOk};
 ghost use Rattle.eqc_compare.specs.Alike.{IsKnown};
 
@@ -41,80 +42,67 @@ impl<'a> Inside<'a> {
             sweep,
             literals: Vec::new(alloc),
             work: 0,
+            seeing: 0,
             earlier: Vec::new(alloc),
             gave_up: false,
         })
     }
 
-    /// Enters the steps that outputs need, into a graph in which nothing is asked yet, and answers
-    /// the work that it took to see which others aren't needed. Fails where memory is refused: no
-    /// step has a literal then.
-    fn enter(&mut self, alloc: Global, alike: &Alike, every: bool) -> Result<u64, AllocError>
+    /// Enters the steps that outputs need, into a graph in which nothing is asked yet. Fails where
+    /// memory is refused: no step has a literal then.
+    fn enter(&mut self, alloc: Global, alike: &Alike, every: bool) -> Result<(), AllocError>
         requires { IsKnown self.old alike.now }
         ensures { self.new ≡ self.old }
     {
         self.literals = Vec::new(alloc);
         let entered = entered_wanted(alloc, &self.steps, &alike.equal, every, &mut self.sweep)?;
         self.literals = entered.literals;
-        Ok(entered.work)
-    }
-
-    /// Enters the steps that outputs need, sweeps them in a first round, and allows searches. Fails
-    /// where memory is refused.
-    fn begin<R: Threads + Sync, P: Progress<R>>(
-        &mut self,
-        rt: &R,
-        alloc: Global,
-        alike: &Alike,
-        rounds: &Rounds,
-        watch: &P,
-    ) -> Result<(), AllocError>
-        requires { IsKnown self.old alike.now }
-        ensures { self.new ≡ self.old }
-    {
-        let seeing = self.enter(alloc, alike, rounds.every)?;
-        self.sweep_again(rt, alloc, alike, rounds.effort(), watch)?;
-        self.allow_searches(rounds, seeing);
+        self.seeing = entered.work;
         Ok(())
     }
 
     /// Enters the steps of a pair that its chosen outputs need which are not marked, where this is
-    /// known of it, and sweeps them in a first round: a step that is chosen in place of others is
-    /// entered for them. Unless every output that differs is looked for, those behind the first
-    /// that is seen to differ aren't needed. It takes time and memory in proportion to the steps
-    /// and to the rows of their covers, for each instance of a model anew, or once for all
-    /// instances where a cover has at most six columns; where these are very many nothing is
-    /// entered, and nothing is found of any output. Which outputs are looked for, and what the
-    /// first round and all searches may cost, is told by `rounds`. The watch is told of each node
-    /// that is swept. Fails where memory is refused.
-    pub fn of<R: Threads + Sync, P: Progress<R>>(
-        rt: &R,
+    /// known of it: a step that is chosen in place of others is entered for them. What has one
+    /// structure is one node, and nothing is asked yet. Unless every output that differs is looked
+    /// for, as the rounds tell, those behind the first that is seen to differ aren't needed. It takes
+    /// time and memory in proportion to the steps and to the rows of their covers, for each instance
+    /// of a model anew, or once for all instances where a cover has at most six columns; where these
+    /// are very many nothing is entered, and nothing is found of any output. Fails where memory is
+    /// refused.
+    pub fn of(
         alloc: Global,
         pair: &'a Pair<'a>,
         alike: &Alike,
         rounds: &Rounds,
-        watch: &P,
     ) -> Result<Inside<'a>, AllocError>
         requires { IsKnown pair.now alike.now }
         ensures { IfOk result (λ inside. inside ≡ pair.now) }
     {
         let mut inside = Inside::empty(alloc, Steps::of(alloc, pair, alike.chosen.clone()?))?;
-        inside.begin(rt, alloc, alike, rounds, watch)?;
+        inside.enter(alloc, alike, rounds.every)?;
         Ok(inside)
     }
 
-    /// What the searches may do, where so much work was done to see which outputs differ.
-    fn allow_searches(&mut self, rounds: &Rounds, seeing: u64)
+    /// Enters anew what the outputs need that aren't marked, where more is known of the pair than
+    /// before. Nothing is asked of it yet. Fails where memory is refused: all is as it was then.
+    pub fn begin_again(
+        &mut self,
+        alloc: Global,
+        alike: &Alike,
+        rounds: &Rounds,
+    ) -> Result<(), AllocError>
+        requires { IsKnown self.old alike.now }
         ensures { self.new ≡ self.old }
     {
-        let work = rounds.in_proportion(work_for(self.sweep.graph().len()));
-        self.work = work.saturating_sub(seeing).max(work / PART);
+        let next = Inside::of(alloc, self.steps.pair(), alike, rounds)?;
+        *self = next;
+        Ok(())
     }
 
-    /// Enters anew what the outputs need that aren't marked, where more is known of the pair than
-    /// before, and sweeps it in a first round. The watch is told of each node that is swept. Fails
-    /// where memory is refused: all is as it was then.
-    pub fn begin_again<R: Threads + Sync, P: Progress<R>>(
+    /// Sweeps what was entered, in a first round, and allows searches. What these may cost is told by
+    /// `rounds`, less the work that it took to see which outputs aren't needed. The watch is told of
+    /// each node that is swept. Fails where memory is refused; what was entered stays then.
+    pub fn sweep_first<R: Threads + Sync, P: Progress<R>>(
         &mut self,
         rt: &R,
         alloc: Global,
@@ -125,8 +113,9 @@ impl<'a> Inside<'a> {
         requires { IsKnown self.old alike.now }
         ensures { self.new ≡ self.old }
     {
-        let next = Inside::of(rt, alloc, self.steps.pair(), alike, rounds, watch)?;
-        *self = next;
+        self.sweep_again(rt, alloc, alike, rounds.effort(), watch)?;
+        let work = rounds.in_proportion(work_for(self.sweep.graph().len()));
+        self.work = work.saturating_sub(self.seeing).max(work / PART);
         Ok(())
     }
 }

@@ -11,10 +11,10 @@ use crate::rounds::open_literals;
 use eqc_adders::{has_adders, is_made_alike};
 use eqc_build::Steps;
 use eqc_compare::{Alike, Progress};
-use eqc_datapath::{Look, Scope, shown_below};
-use eqc_xag::{Node, node_of};
+use eqc_datapath::{Kind, Look, Scope, shown_below};
 use eqc_literals::first_of_literal;
 use eqc_sweep::below;
+use eqc_xag::{Node, node_of};
 use std::alloc::{AllocError, Global};
 
 /// So many sums that look alike and aren't found equal are worth a look.
@@ -88,14 +88,16 @@ impl<'a> Inside<'a> {
     }
 
     /// Whether there is something to look for: words inside, or outputs beside something like an
-    /// adder. Nothing is promised of it. Fails where memory is refused.
+    /// adder, unless nothing was simulated yet, as where words are looked for as they were made.
+    /// Nothing is promised of it. Fails where memory is refused.
     fn is_worth_a_look(&self, alloc: Global, marks: &[bool], look: Look) -> Result<bool, AllocError>
         requires { AreEqual self.now marks.now }
     {
         if !look.is_of_outputs() {
             return self.has_lookalikes(alloc, marks, look);
         }
-        Ok(self.sweep.graph().len() <= look.most_nodes() && has_adders(alloc, &self.sweep)?)
+        let is_small = self.sweep.graph().len() <= look.most_nodes();
+        Ok(is_small && (look.kind == Kind::AsMade || has_adders(alloc, &self.sweep)?))
     }
 
     #[tactic(auto, using(eqc_build::proofs::StepLaws::each_choice))]
@@ -123,7 +125,12 @@ impl<'a> Inside<'a> {
         if !self.is_worth_a_look(alloc, &alike.equal, look)? {
             return Ok(false);
         }
-        let words = self.open_words(alloc, &alike.equal, Meant::All)?;
+        let meant = if look.kind == Kind::AsMade {
+            Meant::SumsUnseen
+        } else {
+            Meant::All
+        };
+        let words = self.open_words(alloc, &alike.equal, meant)?;
         if words.is_empty() && look.is_of_outputs() {
             return Ok(false);
         }

@@ -5,9 +5,9 @@ ghost use Rattle.eqc_literals.specs.Literals.{KeepsMarks};
 
 use eqc_build::Steps;
 use eqc_compare::Alike;
-use eqc_xag::Literal;
 use eqc_literals::{Owned, first_of_literal, outputs_of_one_literal};
 use eqc_sweep::Sweep;
+use eqc_xag::Literal;
 use std::alloc::{AllocError, Global};
 use std::marker::Model;
 
@@ -19,6 +19,8 @@ pub struct Inside<'a> {
     pub(crate) literals: Vec<Option<Literal>>,
     /// The work that the searches for differences may do beside their conflicts, all together, yet.
     pub(crate) work: u64,
+    /// The work that it took to see which outputs aren't needed.
+    pub(crate) seeing: u64,
     /// The last of the least assignments that were found, as values of the first netlist's inputs,
     /// as many as are tried.
     pub(crate) earlier: Vec<Vec<bool>>,
@@ -45,6 +47,7 @@ impl<'a> Drop for Inside<'a> {
             sweep,
             literals: _,
             work: _,
+            seeing: _,
             earlier: _,
             gave_up: _,
         } = self;

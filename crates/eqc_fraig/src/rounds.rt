@@ -6,10 +6,10 @@ ghost use Rattle.eqc_compare.specs.Alike.{AreEqual, IsKnown};
 use crate::inside::Inside;
 use eqc_build::Steps;
 use eqc_compare::{Alike, Progress, is_settled};
-use eqc_xag::Literal;
 use eqc_literals::{Owned, literal_of, moved};
 use eqc_pair::Pair;
 use eqc_sweep::{Comparison, Effort, Sweep, Tally, below, copy, no_copies};
+use eqc_xag::Literal;
 use std::alloc::{AllocError, Global};
 use std::mem::swap;
 use std::thread::Threads;
@@ -171,7 +171,7 @@ pub(crate) fn open_literals(
     literals: &[Option<Literal>],
     marks: &[bool],
     netlists: usize,
-) -> Result<Vec<u32>, AllocError>
+) -> Result<Vec<Literal>, AllocError>
     requires { AreEqual steps.now.pair marks.now }
 {
     let mut open = Vec::new(alloc);

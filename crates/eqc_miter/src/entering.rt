@@ -10,11 +10,11 @@ use crate::difference::difference_literal;
 use eqc_build::Steps;
 use eqc_compare::{is_marked, is_settled};
 use eqc_gates::{literals, needed, needed_within};
-use eqc_xag::Literal;
 use eqc_literals::CHARACTERS;
 use eqc_pair::Pair;
 use eqc_sweep::Sweep;
 use eqc_witness::{first_shown, words_shown};
+use eqc_xag::Literal;
 use std::alloc::{AllocError, Global};
 
 /// What it takes to enter a node in a graph in which nothing is asked, as work.
@@ -55,7 +55,7 @@ fn differences(
     sweep: &mut Sweep,
     literals: &[Option<Literal>],
     wanted: &[bool],
-) -> Result<(Vec<u32>, Vec<usize>), AllocError>
+) -> Result<(Vec<Literal>, Vec<usize>), AllocError>
     requires inside { IsInside steps.now sweep.old literals.now }
     requires outputs { length wanted.now ≤ length steps.now.pair.first.outputs }
     ensures { IsInside steps.now sweep.new literals.now }

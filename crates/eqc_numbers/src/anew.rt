@@ -11,9 +11,9 @@ use crate::chains::{Shape, copy_shaped};
 use crate::compared::{Found, Search, TURNS};
 use crate::cuts::are_equal_over_cuts;
 use crate::shown::{Depth, Words, are_shown_equal, are_shown_in, copies, copy_both};
-use eqc_xag::{Graph, Literal};
 use eqc_products::{Made, Reference, References, is_sum_of_products, make_array, make_references};
 use eqc_sweep::{Effort, Sweep};
+use eqc_xag::{Graph, Literal, Node};
 use std::alloc::{AllocError, Global};
 
 /// A word may be of a netlist's architecture where so many of a thousand of its sums are among what
@@ -22,6 +22,9 @@ const ALIKE: u32 = 350;
 
 /// Where so many literals of its adders are, the word is as it was made: it can be added up itself.
 const AS_MADE: u32 = 980;
+
+/// A word with this part more inputs than literals is of several products.
+const MORE_INPUTS: usize = 4;
 
 /// Where a netlist made anew has such a part of its gates that aren't there, they are others: a flow
 /// rewrote the word.
@@ -43,7 +46,7 @@ fn found_equal<'a>(
     graph: &Graph,
     reference: &Reference,
     anew: &'a [Literal],
-) -> Result<Option<&'a [u32]>, AllocError>
+) -> Result<Option<&'a [Literal]>, AllocError>
     ensures { IfOk result (λ found. IfSome found (λ w. AreEqualWords graph.now word.now.firsts.now w.now)) }
 {
     let both = Words {
@@ -75,12 +78,78 @@ fn are_added_up_by(words: &Words<'_>, graph: &Graph, third: &[Literal]) -> Resul
     )
 }
 
-#[tactic(auto, using(crate::proofs::ShownLaws::words_back))]
+/// Whether what a netlist is made anew for isn't as it was made.
+fn is_taken_apart(reference: &Reference) -> bool {
+    reference.whole < AS_MADE
+}
+
+/// Whether there are so many inputs that a word of so many literals which is a sum of products is
+/// one of several: a product has as many literals as its factors have together.
+fn is_of_several(graph: &Graph, literals: usize) -> bool {
+    let mut inputs: usize = 0;
+    for k in 0..graph.len() {
+        if let Node::Input(_) = graph.node(k) {
+            inputs = inputs.saturating_add(1);
+        }
+    }
+    inputs > literals.saturating_add(literals / MORE_INPUTS)
+}
+
+/// Whether two words of a graph are the same sum of products and look as if they were as they were
+/// made, or are sums of several products: these look taken apart where factors are added up first.
+/// Nothing is promised of it.
+fn look_as_made(words: &Words<'_>, graph: &Graph) -> Result<bool, AllocError> {
+    let Words {
+        alloc,
+        firsts,
+        seconds,
+        ..
+    } = *words;
+    let Some(anew) = make_references(alloc, graph, firsts, seconds)? else {
+        return is_sum_of_products(alloc, graph, firsts);
+    };
+    let is_apart = is_taken_apart(&anew.first) || is_taken_apart(&anew.second);
+    Ok(!is_apart || is_of_several(graph, firsts.len()))
+}
+
+/// In which turn two words of a graph that are the same sum of products get a look: of squares, of
+/// which no array is made, the second one comes first, which shows most of them.
+fn first_turn(words: &Words<'_>, graph: &Graph) -> Result<u32, AllocError> {
+    let array = make_array(words.alloc, graph, words.firsts, words.seconds)?;
+    Ok(u32::from(array.is_none()))
+}
+
 /// Whether two words of a graph that are the same sum of products are shown equal by what they add
-/// up to: by a brief look, or since both add up to what an array does that is made anew. Words that
-/// share parts, but are otherwise of different architectures, are shown so where they aren't by
-/// themselves: adders of one may have been found equal to parts of the other.
+/// up to in a look that takes little, unless they look as if they weren't as they were made. Fails
+/// where memory is refused.
+pub fn are_equal_as_made(words: &Words<'_>, graph: &Graph) -> Result<bool, AllocError>
+    ensures { IfOk result (λ is. IsTrue is → AreEqualWords graph.now words.now.firsts.now words.now.seconds.now) }
+{
+    if !look_as_made(words, graph)? {
+        return Ok(false);
+    }
+    let turn = first_turn(words, graph)?;
+    are_shown_in(words, graph, turn, Depth::AsMade)
+}
+
+/// Whether two words of a graph that are the same sum of products are shown equal by a brief look at
+/// what they add up to.
 fn are_added_up_briefly(words: &Words<'_>, graph: &Graph) -> Result<bool, AllocError>
+    ensures { IfOk result (λ is. IsTrue is → AreEqualWords graph.now words.now.firsts.now words.now.seconds.now) }
+{
+    if !is_sum_of_products(words.alloc, graph, words.firsts)? {
+        return Ok(false);
+    }
+    let turn = first_turn(words, graph)?;
+    are_shown_in(words, graph, turn, Depth::Brief)
+}
+
+#[tactic(auto, using(crate::proofs::ShownLaws::words_back))]
+/// Whether two words of a graph that are the same sum of products are shown equal since both add up
+/// to what an array does that is made anew. Words that share parts, but are otherwise of different
+/// architectures, are shown so where they aren't by themselves: adders of one may have been found
+/// equal to parts of the other.
+fn are_equal_by_an_array(words: &Words<'_>, graph: &Graph) -> Result<bool, AllocError>
     ensures { IfOk result (λ is. IsTrue is → AreEqualWords graph.now words.now.firsts.now words.now.seconds.now) }
 {
     let Words {
@@ -92,9 +161,6 @@ fn are_added_up_briefly(words: &Words<'_>, graph: &Graph) -> Result<bool, AllocE
     let Some(array) = make_array(alloc, graph, firsts, seconds)? else {
         return Ok(false);
     };
-    if are_shown_in(words, graph, 0, Depth::Brief)? {
-        return Ok(true);
-    }
     let mut sweep = Sweep::new(alloc, Effort::none())?;
     let table = copy_both(words, graph, &mut sweep, Shape::Plain)?;
     let ps = copies(alloc, &table, firsts)?;
@@ -112,16 +178,11 @@ fn are_added_up_briefly(words: &Words<'_>, graph: &Graph) -> Result<bool, AllocE
 }
 
 /// Whether two words of a graph that are the same sum of products are shown equal by what they add
-/// up to: by a brief look, as an array does that is made anew, or by a brief look with the second one
-/// first, which shows most squares, of which no array is made. Fails where memory is refused.
+/// up to: by a brief look, or as an array does that is made anew. Fails where memory is refused.
 pub fn are_equal_by_arrays(words: &Words<'_>, graph: &Graph) -> Result<bool, AllocError>
     ensures { IfOk result (λ is. IsTrue is → AreEqualWords graph.now words.now.firsts.now words.now.seconds.now) }
 {
-    Ok(
-        are_added_up_briefly(words, graph)?
-            || is_sum_of_products(words.alloc, graph, words.firsts)?
-                && are_shown_in(words, graph, 1, Depth::Brief)?,
-    )
+    Ok(are_added_up_briefly(words, graph)? || are_equal_by_an_array(words, graph)?)
 }
 
 /// Whether two words are shown equal by what they add up to, soon or in more turns.
@@ -149,7 +210,7 @@ fn are_equal_from(words: &Words<'_>, graph: &Graph, one: &[Literal]) -> Result<b
 fn are_equal_to(
     words: &Words<'_>,
     graph: &Graph,
-    one: Option<&[u32]>,
+    one: Option<&[Literal]>,
     other: &[Literal],
 ) -> Result<bool, AllocError>
     requires one { IfSome one (λ w. AreEqualWords graph.now words.now.firsts.now w.now) }
@@ -171,8 +232,8 @@ fn are_equal_to(
 fn are_equal_by_way(
     words: &Words<'_>,
     graph: &Graph,
-    one: Option<&[u32]>,
-    other: Option<&[u32]>,
+    one: Option<&[Literal]>,
+    other: Option<&[Literal]>,
 ) -> Result<bool, AllocError>
     requires one { IfSome one (λ w. AreEqualWords graph.now words.now.firsts.now w.now) }
     requires other { IfSome other (λ w. AreEqualWords graph.now words.now.seconds.now w.now) }
@@ -183,11 +244,6 @@ fn are_equal_by_way(
         (Some(one), None) => are_equal_from(words, graph, one),
         (one, Some(other)) => are_equal_to(words, graph, one, other),
     }
-}
-
-/// Whether what a netlist is made anew for isn't as it was made.
-fn is_taken_apart(reference: &Reference) -> bool {
-    reference.whole < AS_MADE
 }
 
 /// Whether two words are shown equal in a graph that has what was made anew for both too.
@@ -214,7 +270,11 @@ fn are_equal_in(
 
 /// Makes a word of a netlist that is made anew in a graph, and answers whether such a part of its
 /// gates wasn't there that they are others. Fails where memory is refused.
-fn enter_new(alloc: Global, sweep: &mut Sweep, made: &Made) -> Result<(Vec<u32>, bool), AllocError>
+fn enter_new(
+    alloc: Global,
+    sweep: &mut Sweep,
+    made: &Made,
+) -> Result<(Vec<Literal>, bool), AllocError>
     ensures { Extends sweep.old sweep.new }
 {
     let before = sweep.graph().len();

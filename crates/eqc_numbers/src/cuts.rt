@@ -10,9 +10,9 @@ ghost use Rattle.eqc_numbers.specs.Cuts.{IsCut, StandsFor};
 use crate::anew::are_equal_by_way_of_references;
 use crate::chains::{Shape, copy_shaped};
 use crate::shown::{CHEAP, Words, copies, copy_both};
-use eqc_xag::{Graph, Literal, Node, node_of};
 use eqc_products::is_sum_of_products;
 use eqc_sweep::{Effort, Sweep, below};
+use eqc_xag::{Graph, Literal, Node, node_of};
 use std::alloc::{AllocError, Global};
 
 /// The variables from here on are those of nodes.
@@ -113,7 +113,7 @@ fn note_factors(
     alloc: Global,
     graph: &Graph,
     word: &[Literal],
-    factors: &mut Vec<u32>,
+    factors: &mut Vec<Literal>,
 ) -> Result<(), AllocError> {
     let uses = uses_below(alloc, graph, word)?;
     for k in 0..graph.len() {

@@ -29,7 +29,7 @@ mod marks;
 mod names;
 mod shown;
 
-pub use anew::{are_equal_anew, are_equal_by_arrays};
+pub use anew::{are_equal_anew, are_equal_as_made, are_equal_by_arrays};
 pub use cases::are_equal_in_cases;
 pub use chains::{Shape, copy_shaped};
 pub use lookalikes::find_lookalikes;

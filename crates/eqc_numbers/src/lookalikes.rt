@@ -4,8 +4,8 @@
 use crate::chains::Shape;
 use crate::shown::{CHEAP, Words, copies, copy_both};
 use eqc_adders::{Lookalikes, Sums};
-use eqc_xag::{Graph, Literal, is_negated, negated_if, node_of};
 use eqc_sweep::{Effort, Sweep};
+use eqc_xag::{Graph, Literal, is_negated, negated_if, node_of};
 use std::alloc::{AllocError, Global};
 
 /// By nodes of a copy of a graph, the literal of the graph's lowest node that is one there.
@@ -24,7 +24,11 @@ fn origins(alloc: Global, table: &[Option<Literal>], nodes: u32) -> Result<Vec<u
 }
 
 /// The literals of a graph whose copies these are, false for those that have none.
-fn originals(alloc: Global, origins: &[u32], literals: &[Literal]) -> Result<Vec<u32>, AllocError> {
+fn originals(
+    alloc: Global,
+    origins: &[u32],
+    literals: &[Literal],
+) -> Result<Vec<Literal>, AllocError> {
     let mut all = Vec::with_capacity(alloc, literals.len())?;
     for literal in literals {
         let origin = origins

@@ -1,5 +1,5 @@
 //! Words of a graph that are shown equal in a copy of what they are made of.
-ghost use Rattle.std.specs.Prelude.{◌≡◌, ℕ, ◌<◌, List, length, IfOk, IsTrue};
+ghost use Rattle.std.specs.Prelude.{◌≡◌, List, IfOk, IsTrue};
 ghost use Rattle.eqc_xag.specs.declared.node.Node.{Node};
 ghost use Rattle.eqc_sweep.specs.Copying.{AreCopies};
 ghost use Rattle.eqc_sums.specs.Adding.{AreEqualWords};
@@ -7,8 +7,8 @@ ghost use Rattle.eqc_numbers.specs.Copies.{AreCopiesOf};
 
 use crate::chains::{Shape, copy_shaped};
 use eqc_adders::{Attempts, Limits, Sums};
-use eqc_xag::{Graph, Literal};
 use eqc_sweep::{Effort, Sweep, copied};
+use eqc_xag::{Graph, Literal};
 use std::alloc::{AllocError, Global};
 
 /// Two words of a graph, the lowest literal first, and how far it is gone to show them equal.
@@ -29,6 +29,8 @@ pub(crate) const CHEAP: u64 = 30;
 #[derive(Clone, Copy, PartialEq, Eq)]
 pub(crate) enum Depth {
     /// Words as they were made mostly take no more.
+    AsMade,
+    /// A look before searches, at words that may need none.
     Glance,
     /// What succeeds mostly takes no more.
     Brief,
@@ -37,42 +39,52 @@ pub(crate) enum Depth {
     Long,
 }
 
+/// Parts of the conflicts of a question about an adder: most adders of words as they were made take
+/// a few, and what is asked in vain takes all of them.
+const FEW_CONFLICTS: u64 = 32;
+
+const SOME_CONFLICTS: u64 = 8;
+
+/// This part of the work finds the adders of most products.
+const LITTLE_WORK: u64 = 16;
+
+/// What is shown soon takes these parts of the steps and of the work for them.
+const SOON: u32 = 3;
+
+const SOON_WORK: u64 = 8;
+
 impl Depth {
     /// What may be done to find adders, of what may be done at most.
     fn finding(self, limits: Limits) -> Limits {
-        match self {
-            Depth::Glance => Limits {
-                question: limits.question / 8,
-                work: limits.work / 16,
-                ..limits
-            },
-            Depth::Brief => Limits {
-                question: limits.question / 8,
-                ..limits
-            },
-            Depth::Array => Limits {
-                question: limits.question / 2,
-                ..limits
-            },
-            Depth::Long => limits,
+        let Limits { question, work, .. } = limits;
+        let (question, work) = match self {
+            Depth::AsMade => (question / FEW_CONFLICTS, work),
+            Depth::Glance => (question / SOME_CONFLICTS, work / LITTLE_WORK),
+            Depth::Brief => (question / SOME_CONFLICTS, work),
+            Depth::Array => (question / 2, work),
+            Depth::Long => (question, work),
+        };
+        Limits {
+            question,
+            work,
+            ..limits
         }
     }
 
     /// What may be done to add words up.
     fn adding(self, limits: Limits) -> Limits {
+        let soon = Limits {
+            steps: limits.steps / SOON,
+            work: limits.work / SOON_WORK,
+            attempts: Attempts::Brief,
+            ..limits
+        };
         match self {
+            Depth::AsMade | Depth::Brief => soon,
             Depth::Glance => Limits {
-                steps: limits.steps / 3,
-                conflicts: limits.conflicts / 8,
-                work: limits.work / 8,
+                conflicts: limits.conflicts / SOON_WORK,
                 attempts: Attempts::First,
-                ..limits
-            },
-            Depth::Brief => Limits {
-                steps: limits.steps / 3,
-                work: limits.work / 8,
-                attempts: Attempts::Brief,
-                ..limits
+                ..soon
             },
             Depth::Array => Limits {
                 steps: limits.steps / 2,
@@ -100,7 +112,7 @@ pub(crate) fn copies(
     alloc: Global,
     table: &[Option<Literal>],
     literals: &[Literal],
-) -> Result<Vec<u32>, AllocError>
+) -> Result<Vec<Literal>, AllocError>
     ensures { (old new : List Node) → AreCopies old new table.now → IfOk result (λ cs. AreCopiesOf old new literals.now cs.items) }
 {
     let mut all = Vec::with_capacity(alloc, literals.len())?;
@@ -151,8 +163,8 @@ fn copy_words(
 }
 
 /// Whether two words are shown equal in a graph that has copies of nodes, with a look's part of the
-/// work. It stands apart for its proof's sake: where a graph is let go in each exit
-/// that takes many times longer.
+/// work. It stands apart for its proof's sake: where a graph is let go in each exit that takes many
+/// times longer.
 fn show_copies(
     words: &Words<'_>,
     table: &[Option<Literal>],

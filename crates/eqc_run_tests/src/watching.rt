@@ -142,10 +142,11 @@ fn a_run_tells_its_stages_each_output_once_and_its_nodes(rt: HostRuntime) {
     }
 }
 
-/// The first room is left where it is full.
+/// The first room, which one thread has, is left where it is full. Then signals enter a graph, and
+/// are swept.
 #[test]
 fn a_run_tells_how_far_it_sweeps(rt: HostRuntime) {
-    let wanted = "rsd23456ie";
+    let wanted = "rsd23456iie";
     let told = told_of(&rt, MULTIPLIERS, 2, 1_024);
     same(&rt, is_told(&told, wanted, 1_024, 1_024), true, wanted);
 }

@@ -5,14 +5,16 @@ use crate::ends::same;
 use crate::factors::Factors;
 use crate::multipliers::{Architecture, product};
 use eqc_adders::Limits;
-use eqc_numbers::{Words, are_equal_anew, are_equal_by_arrays, are_shown_equal};
+use eqc_numbers::{Words, are_equal_anew, are_equal_as_made, are_equal_by_arrays, are_shown_equal};
 use eqc_sweep::{Effort, Sweep};
 use std::alloc::{AllocError, Global};
 
-/// What is made anew: products in the architectures that two are most like, an array for both, or
-/// nothing, where what both add up to is looked at once.
+/// What is made anew: nothing, where both are looked at as they were made, products in the
+/// architectures that two are most like, an array for both, or nothing, where what both add up to is
+/// looked at once.
 #[derive(Clone, Copy)]
 enum Way {
+    AsMade,
     Anew,
     Arrays,
     Once,
@@ -38,6 +40,7 @@ fn shown(
         limits: Limits::of(100_000),
     };
     match way {
+        Way::AsMade => are_equal_as_made(&words, sweep.graph()),
         Way::Anew => are_equal_anew(&words, sweep.graph()),
         Way::Arrays => are_equal_by_arrays(&words, sweep.graph()),
         Way::Once => are_shown_equal(&words, sweep.graph(), 1),
@@ -61,6 +64,24 @@ static PRODUCTS: &[(&str, Factors, Architecture, Architecture, usize, bool)] = &
 fn mapped_products_are_shown_equal(rt: HostRuntime) -> Result<(), AllocError> {
     for (case, factors, first, second, fault, is_shown) in PRODUCTS {
         let found = shown(rt.alloc(), *factors, *first, *second, *fault, Way::Anew)?;
+        same(&rt, found, *is_shown, *case);
+    }
+    Ok(())
+}
+
+/// The same of products that get a look as they were made, which one that was mapped gets not.
+#[rattlefmt::skip]
+static AS_MADE: &[(&str, Factors, Architecture, Architecture, usize, bool)] = &[
+    ("6 bits, recoded, against columns", Factors::Two(6), Architecture::Booth, Architecture::Columns, 0, true),
+    ("8 bits, columns, against an array", Factors::Two(8), Architecture::Columns, Architecture::Array, 0, true),
+    ("6 bits, a wrong carry", Factors::Two(6), Architecture::Columns, Architecture::Array, 16, false),
+    ("8 bits, mapped, against rows", Factors::Two(8), Architecture::Mapped, Architecture::Array, 0, false),
+];
+
+#[test]
+fn products_are_shown_equal_as_they_were_made(rt: HostRuntime) -> Result<(), AllocError> {
+    for (case, factors, first, second, fault, is_shown) in AS_MADE {
+        let found = shown(rt.alloc(), *factors, *first, *second, *fault, Way::AsMade)?;
         same(&rt, found, *is_shown, *case);
     }
     Ok(())

@@ -4,7 +4,7 @@ use Rattle.eqc_xag.specs.Graph.{Extends}
 use Rattle.eqc_sweep.specs.Copying.{AreCopies}
 use Rattle.eqc_sums.specs.Adding.{AreEqualWords}
 use Rattle.eqc_numbers.proofs.ShownLaws.{words_back}
-use Rattle.eqc_numbers.proofs.anew.are_added_up_briefly.Goals as goal
+use Rattle.eqc_numbers.proofs.anew.are_equal_by_an_array.Goals as goal
 
 pub returns : goal.returns
 returns c =
