@@ -17,7 +17,8 @@ use std::alloc::{AllocError, Global};
 /// Which attempts there are to show a pair of words equal.
 #[derive(Clone, Copy, PartialEq, Eq, Debug)]
 pub enum Attempts {
-    /// The first alone, which takes least.
+    /// The first alone, which takes least: where a word adds up several products in a large graph,
+    /// also the one with more adders, which comes before it.
     First,
     /// None that takes long, and mostly fails where the others did.
     Brief,

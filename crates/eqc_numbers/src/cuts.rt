@@ -10,7 +10,7 @@ ghost use Rattle.eqc_numbers.specs.Cuts.{IsCut, StandsFor};
 use crate::anew::are_equal_by_way_of_references;
 use crate::chains::{Shape, copy_shaped};
 use crate::shown::{CHEAP, Words, copies, copy_both};
-use eqc_products::is_sum_of_products;
+use eqc_polynomials::is_sum_of_products;
 use eqc_sweep::{Effort, Sweep, below};
 use eqc_xag::{Graph, Literal, Node, node_of};
 use std::alloc::{AllocError, Global};

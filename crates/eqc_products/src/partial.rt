@@ -1,8 +1,8 @@
 //! The bits that a sum of products adds up, in rows: one for each bit or digit of a factor.
 
-use crate::factors::{Factor, Product, column_of, is_taken_away};
 use crate::netlist::{FALSE, Netlist, TRUE};
 use crate::rows::{Kind, Order, Row};
+use eqc_polynomials::{Factor, Product, column_of, is_taken_away};
 use eqc_xag::{Literal, negated, negated_if};
 use std::alloc::{AllocError, Global};
 

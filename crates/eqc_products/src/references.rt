@@ -2,12 +2,12 @@
 
 use crate::adding::{Tree, added_up};
 use crate::ends::{End, PREFIXES};
-use crate::factors::{Summands, is_taken_away, summands_of};
 use crate::netlist::Netlist;
 use crate::partial::{Digits, Partial};
-use crate::quadratic::Quadratic;
 use crate::rows::Order;
-use crate::simulation::{ASSIGNMENTS, Values, random_patterns};
+use eqc_polynomials::{
+    ASSIGNMENTS, Quadratic, SumOfProducts, Summands, Values, is_taken_away, random_patterns, sum_of,
+};
 use eqc_sweep::{Random, below};
 use eqc_xag::{Graph, Literal, negated_if};
 use std::alloc::{AllocError, Global};
@@ -23,7 +23,7 @@ const FEW: u32 = 4;
 /// An architecture of a product: which digits of which factor make rows, and how these are added
 /// up.
 #[derive(Clone, Copy)]
-struct Architecture {
+pub(crate) struct Architecture {
     digits: Digits,
     is_swapped: bool,
     /// Whether inputs that count by themselves come before the products' rows.
@@ -86,25 +86,25 @@ pub struct References {
 
 /// What is added up.
 #[derive(Clone, Copy)]
-struct Task<'a> {
-    alloc: Global,
-    quadratic: &'a Quadratic,
-    summands: &'a Summands,
+pub(crate) struct Task<'a> {
+    pub(crate) alloc: Global,
+    pub(crate) quadratic: &'a Quadratic,
+    pub(crate) summands: &'a Summands,
 }
 
 /// The values of the nodes below a word, each as that of the literal which is false under the first
 /// assignment, in order.
 #[derive(Drop)]
-struct Seen {
-    patterns: Vec<u128>,
-    values: Vec<u128>,
+pub(crate) struct Seen {
+    pub(crate) patterns: Vec<u128>,
+    pub(crate) values: Vec<u128>,
     /// The architecture that is most like the word of those that were looked at.
     best: Option<Best>,
 }
 
 /// The architecture that is most like a word of those that were looked at.
 #[derive(Drop)]
-struct Best {
+pub(crate) struct Best {
     architecture: Architecture,
     /// The values of the sums of its adders, in order.
     sums: Vec<u128>,
@@ -115,7 +115,7 @@ struct Best {
 }
 
 /// A value as that of the literal which is false under the first assignment.
-fn plain(value: u128) -> u128 {
+pub(crate) fn plain(value: u128) -> u128 {
     if value & 1 == 1 { !value } else { value }
 }
 
@@ -141,6 +141,15 @@ impl Seen {
         Ok(Seen {
             patterns,
             values,
+            best: None,
+        })
+    }
+
+    /// The same values, without an architecture. Fails where memory is refused.
+    pub(crate) fn again(&self) -> Result<Seen, AllocError> {
+        Ok(Seen {
+            patterns: self.patterns.clone()?,
+            values: self.values.clone()?,
             best: None,
         })
     }
@@ -205,14 +214,13 @@ impl Seen {
             > other.saturating_mul(all.saturating_add(1))
     }
 
-    /// Takes an architecture as the best one, if it is the first one or its sums are nearer. Fails
-    /// where memory is refused.
-    fn compare(
-        &mut self,
+    /// The values of the sums of a netlist's adders, in order, and how many of a thousand of these
+    /// and of all literals of its adders are among them.
+    fn shares(
+        &self,
         task: &Task<'_>,
         netlist: &Netlist,
-        architecture: Architecture,
-    ) -> Result<(), AllocError> {
+    ) -> Result<(Vec<u128>, u32, u32), AllocError> {
         let values = task.values(netlist, &self.patterns)?;
         let mut sums = Vec::with_capacity(task.alloc, netlist.sums().len())?;
         for literal in netlist.sums() {
@@ -222,6 +230,19 @@ impl Seen {
             }
         }
         sums.sort_unstable();
+        let likeness = self.share(&values, netlist.sums());
+        Ok((sums, likeness, self.share(&values, netlist.ends())))
+    }
+
+    /// Takes an architecture as the best one, if it is the first one or its sums are nearer. Fails
+    /// where memory is refused.
+    fn compare(
+        &mut self,
+        task: &Task<'_>,
+        netlist: &Netlist,
+        architecture: Architecture,
+    ) -> Result<(), AllocError> {
+        let (sums, likeness, whole) = self.shares(task, netlist)?;
         let is_better = match &self.best {
             None => true,
             Some(best) => self.are_nearer(&sums, &best.sums),
@@ -230,8 +251,8 @@ impl Seen {
             self.best = Some(Best {
                 architecture,
                 sums,
-                likeness: self.share(&values, netlist.sums()),
-                whole: self.share(&values, netlist.ends()),
+                likeness,
+                whole,
             });
         }
         Ok(())
@@ -240,7 +261,11 @@ impl Seen {
 
 impl<'a> Task<'a> {
     /// The values of a netlist's nodes where the inputs have these.
-    fn values(&self, netlist: &Netlist, patterns: &[u128]) -> Result<Values, AllocError> {
+    pub(crate) fn values(
+        &self,
+        netlist: &Netlist,
+        patterns: &[u128],
+    ) -> Result<Values, AllocError> {
         Values::of(
             self.alloc,
             netlist.graph(),
@@ -249,9 +274,8 @@ impl<'a> Task<'a> {
         )
     }
 
-    /// The netlist of an architecture, with its word.
-    fn made(&self, architecture: Architecture) -> Result<(Netlist, Vec<u32>), AllocError> {
-        let mut netlist = Netlist::new(self.alloc)?;
+    /// The literals of the inputs, which enter a netlist.
+    pub(crate) fn inputs(&self, netlist: &mut Netlist) -> Result<Vec<Literal>, AllocError> {
         let mut inputs = Vec::with_capacity(self.alloc, self.quadratic.variables.len())?;
         let Quadratic {
             variables,
@@ -263,32 +287,49 @@ impl<'a> Task<'a> {
             let is_negated = negated.get(place).copied().unwrap_or(false);
             inputs.push(negated_if(input, is_negated))?;
         }
+        Ok(inputs)
+    }
+
+    /// The word of an architecture, which enters a netlist that has these inputs.
+    pub(crate) fn word_in(
+        &self,
+        netlist: &mut Netlist,
+        inputs: &[Literal],
+        architecture: Architecture,
+    ) -> Result<Vec<u32>, AllocError> {
         let mut partial = Partial::new(self.alloc, self.quadratic.bits);
         let singles = &self.summands.singles;
         if architecture.are_singles_first {
-            partial.put_singles(&inputs, singles, architecture.digits)?;
+            partial.put_singles(inputs, singles, architecture.digits)?;
         }
         for product in &self.summands.products {
             partial.put_product(
-                &mut netlist,
-                &inputs,
+                netlist,
+                inputs,
                 product,
                 architecture.digits,
                 architecture.is_swapped,
             )?;
         }
         if !architecture.are_singles_first {
-            partial.put_singles(&inputs, singles, architecture.digits)?;
+            partial.put_singles(inputs, singles, architecture.digits)?;
         }
         partial.order(architecture.order)?;
         partial.put_number(self.quadratic.constant);
-        let word = added_up(
+        added_up(
             self.alloc,
-            &mut netlist,
+            netlist,
             &partial,
             architecture.tree,
             architecture.end,
-        )?;
+        )
+    }
+
+    /// The netlist of an architecture, with its word.
+    fn made(&self, architecture: Architecture) -> Result<(Netlist, Vec<u32>), AllocError> {
+        let mut netlist = Netlist::new(self.alloc)?;
+        let inputs = self.inputs(&mut netlist)?;
+        let word = self.word_in(&mut netlist, &inputs, architecture)?;
         Ok((netlist, word))
     }
 
@@ -385,11 +426,38 @@ impl<'a> Task<'a> {
         Ok(found)
     }
 
-    /// The netlist that is most like a word, if one was looked at.
+    /// The architecture that is most like a word, and its end: none where there is none.
+    pub(crate) fn nearest(&self, seen: &mut Seen) -> Result<Option<Architecture>, AllocError> {
+        seen.best = None;
+        for architecture in &self.architectures()? {
+            let (netlist, _) = self.made(*architecture)?;
+            seen.compare(self, &netlist, *architecture)?;
+        }
+        match &seen.best {
+            None => Ok(None),
+            Some(best) => Ok(Some(self.with_end(seen, best.architecture)?)),
+        }
+    }
+
+    /// The netlist that is most like a word, if one was looked at: of all rows at once, or of
+    /// products that are added up each by itself.
     fn reference(&self, seen: &Seen) -> Result<Option<Reference>, AllocError> {
         let Some(best) = &seen.best else {
             return Ok(None);
         };
+        if let Some(apart) = self.apart(seen)? {
+            let (sums, likeness, whole) = seen.shares(self, &apart.netlist)?;
+            if seen.are_nearer(&sums, &best.sums) {
+                return Ok(Some(Reference {
+                    made: Made {
+                        graph: apart.netlist.into_graph(),
+                        word: apart.word,
+                    },
+                    likeness,
+                    whole,
+                }));
+            }
+        }
         let architecture = self.with_end(seen, best.architecture)?;
         let (netlist, word) = self.made(architecture)?;
         Ok(Some(Reference {
@@ -403,40 +471,6 @@ impl<'a> Task<'a> {
     }
 }
 
-/// The sum of products of two inputs that two words of a graph are, and its parts: none where they
-/// aren't the same one. Fails where memory is refused.
-fn sum_of(
-    alloc: Global,
-    graph: &Graph,
-    first: &[Literal],
-    second: &[Literal],
-) -> Result<Option<(Quadratic, Summands)>, AllocError> {
-    let Some(quadratic) = Quadratic::of(alloc, graph, first)? else {
-        return Ok(None);
-    };
-    if first.len() != second.len() || !quadratic.is_same(alloc, graph, second)? {
-        return Ok(None);
-    }
-    let quadratic = quadratic.turned();
-    let Some(summands) = summands_of(alloc, &quadratic)? else {
-        return Ok(None);
-    };
-    Ok(Some((quadratic, summands)))
-}
-
-/// Whether a word of a graph, the lowest literal first, looks like a sum of products of two inputs.
-/// Nothing is promised of it. Fails where memory is refused.
-pub fn is_sum_of_products(
-    alloc: Global,
-    graph: &Graph,
-    word: &[Literal],
-) -> Result<bool, AllocError> {
-    let Some(quadratic) = Quadratic::of(alloc, graph, word)? else {
-        return Ok(false);
-    };
-    Ok(summands_of(alloc, &quadratic.turned())?.is_some())
-}
-
 /// Netlists made anew for two words of a graph, the lowest literal first, each in the architecture
 /// that is most like it: none where the words aren't the same sum of products of two inputs. That
 /// they stand for what the words do isn't promised. Fails where memory is refused.
@@ -446,9 +480,13 @@ pub fn make_references(
     first: &[Literal],
     second: &[Literal],
 ) -> Result<Option<References>, AllocError> {
-    let Some((quadratic, summands)) = sum_of(alloc, graph, first, second)? else {
+    let Some(sum) = sum_of(alloc, graph, first, second)? else {
         return Ok(None);
     };
+    let SumOfProducts {
+        quadratic,
+        summands,
+    } = sum;
     let task = Task {
         alloc,
         quadratic: &quadratic,
@@ -477,9 +515,13 @@ pub fn make_array(
     first: &[Literal],
     second: &[Literal],
 ) -> Result<Option<Made>, AllocError> {
-    let Some((quadratic, summands)) = sum_of(alloc, graph, first, second)? else {
+    let Some(sum) = sum_of(alloc, graph, first, second)? else {
         return Ok(None);
     };
+    let SumOfProducts {
+        quadratic,
+        summands,
+    } = sum;
     if summands.products.iter().any(|it| it.is_square()) {
         return Ok(None);
     }

@@ -5,18 +5,18 @@ use eqc_xag::{Graph, Literal, Node, is_negated, node_of};
 use std::alloc::{AllocError, Global};
 
 /// So many assignments are simulated at once.
-pub(crate) const ASSIGNMENTS: usize = 128;
+pub const ASSIGNMENTS: usize = 128;
 
 /// The values of the nodes of a graph, bit t of each for the assignment t.
 #[derive(Drop)]
-pub(crate) struct Values {
+pub struct Values {
     nodes: Vec<u128>,
 }
 
 impl Values {
     /// The values where the inputs of these variables, in ascending order, have these, and other
     /// inputs are false. Fails where memory is refused.
-    pub(crate) fn of(
+    pub fn of(
         alloc: Global,
         graph: &Graph,
         variables: &[u32],
@@ -41,7 +41,7 @@ impl Values {
     }
 
     /// The values of a literal.
-    pub(crate) fn at(&self, literal: Literal) -> u128 {
+    pub fn at(&self, literal: Literal) -> u128 {
         let value = self
             .nodes
             .get(node_of(literal) as usize)
@@ -51,7 +51,7 @@ impl Values {
     }
 
     /// The number that a word stands for under an assignment, the lowest literal first.
-    pub(crate) fn number(&self, word: &[Literal], assignment: usize) -> u128 {
+    pub fn number(&self, word: &[Literal], assignment: usize) -> u128 {
         let mut number = 0u128;
         for literal in word.iter().rev() {
             let bit = self.at(*literal) >> (assignment % ASSIGNMENTS) & 1;
@@ -83,7 +83,7 @@ pub(crate) fn variables_of(
 }
 
 /// Pseudo-random values of so many inputs. Fails where memory is refused.
-pub(crate) fn random_patterns(
+pub fn random_patterns(
     alloc: Global,
     random: &mut Random,
     count: usize,

@@ -12,27 +12,27 @@ const LEAST_BITS: usize = 3;
 /// A word of inputs by their places, the lowest first, whose last one counts as less than nothing
 /// where it is signed.
 #[derive(Drop)]
-pub(crate) struct Factor {
-    pub(crate) places: Vec<usize>,
-    pub(crate) is_signed: bool,
+pub struct Factor {
+    pub places: Vec<usize>,
+    pub is_signed: bool,
 }
 
 /// The product of two words, of which the lowest bits count 2^lowest together, or less than nothing
 /// by that.
 #[derive(Drop)]
-pub(crate) struct Product {
-    pub(crate) first: Factor,
-    pub(crate) second: Factor,
-    pub(crate) lowest: u32,
-    pub(crate) is_negative: bool,
+pub struct Product {
+    pub first: Factor,
+    pub second: Factor,
+    pub lowest: u32,
+    pub is_negative: bool,
 }
 
 /// What a polynomial adds up beside its constant: products, and inputs that count by themselves, by
 /// their places.
 #[derive(Drop)]
-pub(crate) struct Summands {
-    pub(crate) products: Vec<Product>,
-    pub(crate) singles: Vec<u128>,
+pub struct Summands {
+    pub products: Vec<Product>,
+    pub singles: Vec<u128>,
 }
 
 /// How often a conjunction of two inputs counts that isn't in a product yet, and an input by itself.
@@ -45,7 +45,7 @@ struct Rest {
 }
 
 /// A column, and whether what counts there is taken away: none of what isn't a power of two.
-pub(crate) fn column_of(times: u128, bits: usize) -> Option<(u32, bool)> {
+pub fn column_of(times: u128, bits: usize) -> Option<(u32, bool)> {
     let less = 0u128.wrapping_sub(times) & modulus_of(bits);
     if times.is_power_of_two() {
         Some((times.trailing_zeros(), false))
@@ -57,7 +57,7 @@ pub(crate) fn column_of(times: u128, bits: usize) -> Option<(u32, bool)> {
 }
 
 /// Whether what counts so often is taken away.
-pub(crate) fn is_taken_away(times: u128, bits: usize) -> bool {
+pub fn is_taken_away(times: u128, bits: usize) -> bool {
     matches!(column_of(times, bits), Some((_, true)))
 }
 
@@ -327,17 +327,17 @@ impl Factor {
 
 impl Product {
     /// Whether it is a word times itself: two others have no input in common.
-    pub(crate) fn is_square(&self) -> bool {
+    pub fn is_square(&self) -> bool {
         self.first.places.first().copied() == self.second.places.first().copied()
     }
 
     /// Whether some of its bits count as less than nothing.
-    pub(crate) fn takes_away(&self) -> bool {
+    pub fn takes_away(&self) -> bool {
         self.is_negative || self.first.is_signed || self.second.is_signed
     }
 
     /// Whether the conjunction of two bits counts as less than nothing.
-    pub(crate) fn is_pair_taken_away(&self, i: usize, j: usize) -> bool {
+    pub fn is_pair_taken_away(&self, i: usize, j: usize) -> bool {
         let is_signed = self.first.is_last(i) != self.second.is_last(j);
         is_signed != self.is_negative
     }

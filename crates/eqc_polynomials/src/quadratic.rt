@@ -37,23 +37,23 @@ struct Places {
 
 /// How often the conjunction of two inputs counts.
 #[derive(Clone, Copy)]
-pub(crate) struct Pair {
-    pub(crate) one: usize,
-    pub(crate) other: usize,
-    pub(crate) times: u128,
+pub struct Pair {
+    pub one: usize,
+    pub other: usize,
+    pub times: u128,
 }
 
 /// A polynomial, modulo 2^bits: a constant, how often each input counts, and the conjunction of two.
 #[derive(Drop)]
-pub(crate) struct Quadratic {
-    pub(crate) bits: usize,
+pub struct Quadratic {
+    pub bits: usize,
     /// The inputs' variables, in ascending order.
-    pub(crate) variables: Vec<u32>,
+    pub variables: Vec<u32>,
     /// By inputs, whether its complement counts in place of it.
-    pub(crate) negated: Vec<bool>,
-    pub(crate) constant: u128,
-    pub(crate) singles: Vec<u128>,
-    pub(crate) pairs: Vec<Pair>,
+    pub negated: Vec<bool>,
+    pub constant: u128,
+    pub singles: Vec<u128>,
+    pub pairs: Vec<Pair>,
 }
 
 /// The numbers below 2^bits, for which all digits are ones.
