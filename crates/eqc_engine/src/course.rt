@@ -33,6 +33,8 @@ ghost use Rattle.eqc_report.specs.Seen.{IsLeftOf};
 ghost use Rattle.eqc_report.specs.Left.{IsTold, KeepsTold};
 
 use crate::begun::Begun;
+use crate::sweeping::{ask_outputs, ask_while_found, sweep_first, sweep_more};
+use crate::words::{by_inner_sums, by_sums, by_words_as_made};
 use crate::workers::{
     Comparison, check_by_one, check_by_team, check_first, check_in_large, first_nodes,
     goes_on_alone, has_large_room, has_many_inputs, has_some_inputs, is_full,
@@ -48,22 +50,13 @@ use std::thread::Threads;
 /// fewer asks about these.
 const SWEPT_NODES: u32 = 1_024;
 
-/// This part of the conflicts that the options allow are given to all outputs that a round of
-/// sweeping leaves, to find them equal.
-const FEW_PART: u64 = 20;
-
-/// So often they have as many at most, each time after some were found equal.
-const MOST_TIMES: u32 = 8;
-
-/// With this part of them all outputs are searched for differences at first.
+/// With this part of the conflicts that the options allow all outputs are searched for differences
+/// at first.
 const SEARCH_PART: u64 = 5;
 
 /// Longer rounds come before diagrams of one worker where the rounds between left this part fewer
 /// nodes.
 const FRUITFUL: u64 = 8;
-
-/// There are no more rounds of sweeping than so many, whatever they find.
-const MOST_ROUNDS: u32 = 100;
 
 /// Where a run's comparison is made, behind the first room: a store of one thread, which is left as
 /// soon as it is full, or as the turns of its operations are spent.
@@ -224,119 +217,6 @@ fn few_conflicts<R, P>(comparison: &Comparison<'_, R, P>) -> Conflicts {
     }
 }
 
-/// Searches for differences of the outputs that are left, with so many conflicts in all. Those for
-/// which there is none become known: whether there are any.
-fn ask_outputs<R: Threads + Sync, P: Progress<R>>(
-    comparison: &Comparison<'_, R, P>,
-    inside: &mut Inside<'_>,
-    alike: &mut Alike,
-    conflicts: u64,
-) -> bool
-    requires { IsKnown inside.old alike.old }
-    ensures pair { inside.new ≡ inside.old }
-    ensures known { IsKnown inside.new alike.new }
-    ensures kept { KeepsMarks inside.old alike.old.equal.items alike.new.equal.items }
-{
-    let Comparison {
-        rt,
-        alloc,
-        watch,
-        ..
-    } = *comparison;
-    watch.stage(rt, Stage::Asking);
-    inside.ask_outputs(rt, alloc, alike, conflicts, watch)
-}
-
-/// Asks about the outputs that a round of sweeping left, with few conflicts, and again as long as
-/// some are found equal: what was found equal below them often makes them easy.
-fn ask_while_found<R: Threads + Sync, P: Progress<R>>(
-    comparison: &Comparison<'_, R, P>,
-    inside: &mut Inside<'_>,
-    alike: &mut Alike,
-)
-    requires inside { inside.old ≡ comparison.now.pair.now }
-    requires known { IsKnown inside.old alike.old }
-    ensures pair { inside.new ≡ inside.old }
-    ensures known { IsKnown inside.new alike.new }
-    ensures kept { KeepsMarks inside.old alike.old.equal.items alike.new.equal.items }
-{
-    let Comparison { alloc, pair, .. } = *comparison;
-    let few = u64::from(comparison.options.conflicts) / FEW_PART;
-    for _ in 0..MOST_TIMES {
-        if known_outcome(alloc, pair, &alike.equal).is_some() {
-            return;
-        }
-        if !ask_outputs(comparison, inside, alike, few) {
-            return;
-        }
-    }
-}
-
-/// Sweeps what is left in further rounds, as long as these find something and outputs are left,
-/// which are asked about after each round.
-fn sweep_more<R: Threads + Wait + Sync, P: Progress<R> + Sync>(
-    comparison: &Comparison<'_, R, P>,
-    inside: &mut Inside<'_>,
-    alike: &mut Alike,
-    rounds: &mut Rounds,
-)
-    requires inside { inside.old ≡ comparison.now.pair.now }
-    requires known { IsKnown inside.old alike.old }
-    ensures pair { inside.new ≡ inside.old }
-    ensures known { IsKnown inside.new alike.new }
-    ensures kept { KeepsMarks inside.old alike.old.equal.items alike.new.equal.items }
-{
-    let Comparison {
-        rt,
-        alloc,
-        pair,
-        watch,
-        ..
-    } = *comparison;
-    for _ in 0..MOST_ROUNDS {
-        if !rounds.has_next() || known_outcome(alloc, pair, &alike.equal).is_some() {
-            return;
-        }
-        watch.stage(rt, Stage::Sweeping);
-        if inside
-            .sweep_again(rt, alloc, alike, rounds.effort(), watch)
-            .is_err()
-        {
-            return;
-        }
-        rounds.count(inside.tally());
-        if let Ok(more) = inside.known(alloc, alike) {
-            *alike = more;
-        }
-        ask_while_found(comparison, inside, alike);
-    }
-}
-
-/// Sweeps what was entered in a first round: the outputs that it finds equal become known.
-fn sweep_first<R: Threads + Wait + Sync, P: Progress<R> + Sync>(
-    comparison: &Comparison<'_, R, P>,
-    inside: &mut Inside<'_>,
-    alike: &mut Alike,
-    rounds: &Rounds,
-)
-    requires { IsKnown inside.old alike.old }
-    ensures pair { inside.new ≡ inside.old }
-    ensures known { IsKnown inside.new alike.new }
-    ensures kept { KeepsMarks inside.old alike.old.equal.items alike.new.equal.items }
-{
-    let Comparison {
-        rt,
-        alloc,
-        watch,
-        ..
-    } = *comparison;
-    // Where memory is refused what was entered stays.
-    let _ = inside.sweep_first(rt, alloc, alike, rounds, watch);
-    if let Ok(more) = inside.known(alloc, alike) {
-        *alike = more;
-    }
-}
-
 /// The report over what short rounds of sweeping find equal, which becomes known: by short searches
 /// where simulation saw an output differ.
 fn by_short_rounds<R: Threads + Wait + Sync, P: Progress<R> + Sync>(
@@ -365,148 +245,6 @@ fn by_short_rounds<R: Threads + Wait + Sync, P: Progress<R> + Sync>(
         return Err(Stop::NodeLimit);
     }
     by_search(comparison, inside, alike, few_conflicts(comparison), left)
-}
-
-/// The report where all that is to be told is known: `NodeLimit` where it isn't.
-fn of_known<R: Threads + Wait + Sync, P: Progress<R> + Sync>(
-    comparison: &Comparison<'_, R, P>,
-    alike: &Alike,
-) -> Result<Report, Stop>
-    requires { IsKnown comparison.now.pair.now alike.now }
-    ensures { IfOk result (λ report. report_of report ≡ pair_report comparison.now.options.now.every comparison.now.pair.now) }
-{
-    let Comparison {
-        alloc,
-        pair,
-        options,
-        ..
-    } = *comparison;
-    match known_outcome(alloc, pair, &alike.equal) {
-        Some(outcome) => found_report(alloc, pair, options.every, outcome),
-        None => Err(Stop::NodeLimit),
-    }
-}
-
-/// The report where words of outputs are shown equal by what they add up to, which become known.
-fn by_sums<R: Threads + Wait + Sync, P: Progress<R> + Sync>(
-    comparison: &Comparison<'_, R, P>,
-    inside: &mut Inside<'_>,
-    alike: &mut Alike,
-) -> Result<Report, Stop>
-    requires inside { inside.old ≡ comparison.now.pair.now }
-    requires known { IsKnown comparison.now.pair.now alike.old }
-    ensures inside { inside.new ≡ inside.old }
-    ensures known { IsKnown comparison.now.pair.now alike.new }
-    ensures kept { KeepsMarks comparison.now.pair.now alike.old.equal.items alike.new.equal.items }
-    ensures report { IfOk result (λ report. report_of report ≡ pair_report comparison.now.options.now.every comparison.now.pair.now) }
-{
-    let Comparison {
-        rt,
-        alloc,
-        pair,
-        options,
-        watch,
-    } = *comparison;
-    if known_outcome(alloc, pair, &alike.equal).is_none() {
-        let conflicts = u64::from(options.conflicts);
-        // Where memory is refused the run goes on with what was shown before.
-        let _ = inside.add_up(rt, alloc, alike, conflicts, watch);
-    }
-    of_known(comparison, alike)
-}
-
-/// Whether words that are looked for are shown equal by what they add up to. Then the graph is made
-/// anew, with one of two signals in place of both, and the outputs that are equal so become known.
-fn take_words<R: Threads + Wait + Sync, P: Progress<R> + Sync>(
-    comparison: &Comparison<'_, R, P>,
-    inside: &mut Inside<'_>,
-    alike: &mut Alike,
-    rounds: &Rounds,
-    look: Look,
-) -> bool
-    requires inside { inside.old ≡ comparison.now.pair.now }
-    requires known { IsKnown inside.old alike.old }
-    ensures pair { inside.new ≡ inside.old }
-    ensures known { IsKnown inside.new alike.new }
-    ensures kept { KeepsMarks inside.old alike.old.equal.items alike.new.equal.items }
-{
-    let Comparison {
-        rt,
-        alloc,
-        watch,
-        ..
-    } = *comparison;
-    let shown = inside.add_up_inside(rt, alloc, alike, look, watch);
-    if !matches!(shown, Ok(true)) {
-        return false;
-    }
-    // Where memory is refused the graph is as it was.
-    let _ = inside.begin_again(alloc, alike, rounds);
-    if let Ok(more) = inside.known(alloc, alike) {
-        *alike = more;
-    }
-    true
-}
-
-/// The report where words of outputs are shown equal before anything is swept, as products as they
-/// were made mostly are.
-fn by_words_as_made<R: Threads + Wait + Sync, P: Progress<R> + Sync>(
-    comparison: &Comparison<'_, R, P>,
-    inside: &mut Inside<'_>,
-    alike: &mut Alike,
-    rounds: &Rounds,
-) -> Result<Report, Stop>
-    requires inside { inside.old ≡ comparison.now.pair.now }
-    requires known { IsKnown comparison.now.pair.now alike.old }
-    ensures inside { inside.new ≡ inside.old }
-    ensures known { IsKnown comparison.now.pair.now alike.new }
-    ensures kept { KeepsMarks comparison.now.pair.now alike.old.equal.items alike.new.equal.items }
-    ensures report { IfOk result (λ report. report_of report ≡ pair_report comparison.now.options.now.every comparison.now.pair.now) }
-{
-    let look = Look {
-        kind: Kind::AsMade,
-        conflicts: u64::from(comparison.options.conflicts),
-    };
-    let _ = take_words(comparison, inside, alike, rounds, look);
-    of_known(comparison, alike)
-}
-
-/// The report where words that are looked for, inside the netlists or of outputs in cases, are shown
-/// equal by what they add up to, and what depends on them is swept anew in a round, with one of two
-/// signals in place of both. The outputs found equal so become known.
-fn by_inner_sums<R: Threads + Wait + Sync, P: Progress<R> + Sync>(
-    comparison: &Comparison<'_, R, P>,
-    inside: &mut Inside<'_>,
-    alike: &mut Alike,
-    rounds: &Rounds,
-    look: Look,
-) -> Result<Report, Stop>
-    requires inside { inside.old ≡ comparison.now.pair.now }
-    requires known { IsKnown comparison.now.pair.now alike.old }
-    ensures inside { inside.new ≡ inside.old }
-    ensures known { IsKnown comparison.now.pair.now alike.new }
-    ensures kept { KeepsMarks comparison.now.pair.now alike.old.equal.items alike.new.equal.items }
-    ensures report { IfOk result (λ report. report_of report ≡ pair_report comparison.now.options.now.every comparison.now.pair.now) }
-{
-    let Comparison {
-        rt,
-        alloc,
-        pair,
-        watch,
-        ..
-    } = *comparison;
-    if known_outcome(alloc, pair, &alike.equal).is_some() {
-        return of_known(comparison, alike);
-    }
-    if !take_words(comparison, inside, alike, rounds, look) {
-        return Err(Stop::NodeLimit);
-    }
-    if known_outcome(alloc, pair, &alike.equal).is_none() {
-        watch.stage(rt, Stage::Sweeping);
-        sweep_first(comparison, inside, alike, rounds);
-        ask_while_found(comparison, inside, alike);
-    }
-    of_known(comparison, alike)
 }
 
 /// Sweeps in rounds that take no longer than diagrams of one worker, where there are few inputs.

@@ -1,7 +1,7 @@
 use Rattle.std.proofs.Common.{◌≡◌}
 use Rattle.eqc_compare.specs.Alike.{IsKnown}
 use Rattle.eqc_literals.specs.Literals.{KeepsMarks}
-use Rattle.eqc_engine.proofs.course.ask_while_found.Given as goal
+use Rattle.eqc_engine.proofs.sweeping.sweep_more.Given as goal
 
 abbrev pub invariant-loop : goal.invariant-loop
 invariant-loop g l = record {
