@@ -84,6 +84,12 @@ fn is_taken_apart(reference: &Reference) -> bool {
     reference.whole < AS_MADE
 }
 
+/// Whether a flow changed a word that is of a netlist's architecture: its gates are others, or it
+/// isn't as it was made.
+fn is_changed(reference: &Reference, is_new: bool) -> bool {
+    reference.likeness >= ALIKE && (is_new || is_taken_apart(reference))
+}
+
 /// Whether there are so many inputs that a word of so many literals which is a sum of products is
 /// one of several: a product has as many literals as its factors have together.
 fn is_of_several(graph: &Graph, literals: usize) -> bool {
@@ -96,9 +102,35 @@ fn is_of_several(graph: &Graph, literals: usize) -> bool {
     inputs > literals.saturating_add(literals / MORE_INPUTS)
 }
 
+/// Makes a word of a netlist that is made anew in a graph, and answers whether such a part of its
+/// gates wasn't there that they are others. Fails where memory is refused.
+fn enter_new(
+    alloc: Global,
+    sweep: &mut Sweep,
+    made: &Made,
+) -> Result<(Vec<Literal>, bool), AllocError>
+    ensures { Extends sweep.old sweep.new }
+{
+    let before = sweep.graph().len();
+    let word = enter(alloc, sweep, made)?;
+    let new = sweep.graph().len().saturating_sub(before);
+    Ok((word, new >= made.graph.len() / REWRITTEN))
+}
+
+/// Whether a flow changed one of two words for which netlists were made anew. Fails where memory is
+/// refused.
+fn is_one_changed(words: &Words<'_>, graph: &Graph, anew: &References) -> Result<bool, AllocError> {
+    let mut sweep = Sweep::new(words.alloc, Effort::none())?;
+    copy_both(words, graph, &mut sweep, Shape::Plain)?;
+    let (_, is_first_new) = enter_new(words.alloc, &mut sweep, &anew.first.made)?;
+    let (_, is_second_new) = enter_new(words.alloc, &mut sweep, &anew.second.made)?;
+    Ok(is_changed(&anew.first, is_first_new) || is_changed(&anew.second, is_second_new))
+}
+
 /// Whether two words of a graph are the same sum of products and look as if they were as they were
-/// made, or are sums of several products: these look taken apart where factors are added up first.
-/// Nothing is promised of it.
+/// made: of several products also where they are like no netlist, as where factors are added up
+/// first, but not where a flow changed them, since looks at them in vain take long. Nothing is
+/// promised of it.
 fn look_as_made(words: &Words<'_>, graph: &Graph) -> Result<bool, AllocError> {
     let Words {
         alloc,
@@ -109,8 +141,10 @@ fn look_as_made(words: &Words<'_>, graph: &Graph) -> Result<bool, AllocError> {
     let Some(anew) = make_references(alloc, graph, firsts, seconds)? else {
         return is_sum_of_products(alloc, graph, firsts);
     };
-    let is_apart = is_taken_apart(&anew.first) || is_taken_apart(&anew.second);
-    Ok(!is_apart || is_of_several(graph, firsts.len()))
+    if is_of_several(graph, firsts.len()) {
+        return Ok(!is_one_changed(words, graph, &anew)?);
+    }
+    Ok(!is_taken_apart(&anew.first) && !is_taken_apart(&anew.second))
 }
 
 /// In which turn two words of a graph that are the same sum of products get a look: of squares, of
@@ -247,13 +281,15 @@ fn are_equal_by_way(
     }
 }
 
-/// Whether two words are shown equal in a graph that has what was made anew for both too.
+/// Whether two words are shown equal in a graph that has what was made anew for both too. What a
+/// flow changed isn't shown at a glance.
 fn are_equal_in(
     words: &Words<'_>,
     graph: &Graph,
     anew: &References,
     first: &[Literal],
     second: &[Literal],
+    is_changed: bool,
 ) -> Result<bool, AllocError>
     ensures { IfOk result (λ is. IsTrue is → AreEqualWords graph.now words.now.firsts.now words.now.seconds.now) }
 {
@@ -261,27 +297,12 @@ fn are_equal_in(
         firsts: words.seconds,
         ..*words
     };
-    if are_shown_in(words, graph, 0, Depth::Glance)? {
+    if !is_changed && are_shown_in(words, graph, 0, Depth::Glance)? {
         return Ok(true);
     }
     let one = found_equal(words, graph, &anew.first, first)?;
     let other = found_equal(&turned, graph, &anew.second, second)?;
     are_equal_by_way(words, graph, one, other)
-}
-
-/// Makes a word of a netlist that is made anew in a graph, and answers whether such a part of its
-/// gates wasn't there that they are others. Fails where memory is refused.
-fn enter_new(
-    alloc: Global,
-    sweep: &mut Sweep,
-    made: &Made,
-) -> Result<(Vec<Literal>, bool), AllocError>
-    ensures { Extends sweep.old sweep.new }
-{
-    let before = sweep.graph().len();
-    let word = enter(alloc, sweep, made)?;
-    let new = sweep.graph().len().saturating_sub(before);
-    Ok((word, new >= made.graph.len() / REWRITTEN))
 }
 
 #[tactic(auto, using(crate::proofs::ShownLaws::words_back))]
@@ -319,7 +340,9 @@ fn are_equal_by_references(
         seconds: &qs,
         ..*words
     };
-    are_equal_in(&copied, sweep.graph(), anew, &first, &second)
+    let is_changed = is_changed(&anew.first, is_first_new)
+        || is_changed(&anew.second, is_second_new);
+    are_equal_in(&copied, sweep.graph(), anew, &first, &second, is_changed)
 }
 
 /// The same as `are_equal_anew` where the words are sums of products of inputs. Words as they were
