@@ -22,6 +22,15 @@ const FIRST: u32 = 1_073_741_824;
 /// of the other one. Where a netlist recodes the factor fewer are made of it there.
 const MANY: u32 = 8;
 
+/// Which gates may be bits of factors, of those of which many others are made.
+#[derive(Clone, Copy, PartialEq, Eq)]
+enum Factors {
+    /// Those that no product of two such bits goes into: of the bit that tells a row's sign many
+    /// gates are made too.
+    BelowProducts,
+    All,
+}
+
 #[tactic(auto, using(crate::proofs::CutLaws::cut_stands, crate::proofs::CutLaws::input_stands, crate::proofs::CutLaws::constant_stands, crate::proofs::CutLaws::and_stands, crate::proofs::CutLaws::xor_stands))]
 /// What stands for a node: an input of its own, if it is cut or is one of the variables of nodes.
 fn cut_node(node: Node, k: u32, is_cut: bool) -> Node
@@ -86,49 +95,104 @@ fn is_gate(graph: &Graph, k: u32) -> bool {
     k < graph.len() && matches!(graph.node(k), Node::And(_, _) | Node::Xor(_, _))
 }
 
-/// Marks of the gates below both words of which many others are made below one of them: none where
-/// there is no such gate. Nothing is promised of them. Fails where memory is refused.
+fn is_marked(marks: &[bool], k: u32) -> bool {
+    marks.get(k as usize).copied() == Some(true)
+}
+
+/// Whether many gates are made of a node.
+fn is_used_often(uses: &[u32], k: u32) -> bool {
+    uses.get(k as usize).copied().unwrap_or(0) >= MANY
+}
+
+/// Marks of the gates of which many others are made, by how many, where they may be bits of factors.
+/// Fails where memory is refused.
+fn factors_of(
+    alloc: Global,
+    graph: &Graph,
+    uses: &[u32],
+    factors: Factors,
+) -> Result<Vec<bool>, AllocError> {
+    let mut marks = Vec::with_capacity(alloc, uses.len())?;
+    let mut above = Vec::with_capacity(alloc, uses.len())?;
+    for k in 0..graph.len() {
+        let is_many = |literal: Literal| is_used_often(uses, node_of(literal));
+        let has = |all: &[bool], literal: Literal| is_marked(all, node_of(literal));
+        let is_above = match graph.node(k) {
+            Node::Constant | Node::Input(_) => false,
+            Node::Xor(x, y) => has(&above, x) || has(&above, y),
+            Node::And(x, y) => has(&above, x) || has(&above, y) || is_many(x) && is_many(y),
+        };
+        let is_left = factors == Factors::BelowProducts && is_above;
+        marks.push(is_gate(graph, k) && is_used_often(uses, k) && !is_left)?;
+        above.push(is_above)?;
+    }
+    Ok(marks)
+}
+
+/// Of how many gates below one of two words each node is an operand, if it is below both. Fails
+/// where memory is refused.
+fn uses_of(
+    alloc: Global,
+    graph: &Graph,
+    firsts: &[Literal],
+    seconds: &[Literal],
+) -> Result<Vec<u32>, AllocError> {
+    let one = uses_below(alloc, graph, firsts)?;
+    let other = uses_below(alloc, graph, seconds)?;
+    let mut uses = Vec::with_capacity(alloc, one.len())?;
+    for k in 0..one.len().min(other.len()) {
+        let is_below_both = one[k] > 0 && other[k] > 0;
+        uses.push(if is_below_both {
+            one[k].max(other[k])
+        } else {
+            0
+        })?;
+    }
+    Ok(uses)
+}
+
+/// Marks of the gates below both words that may be bits of factors: none where there is no such
+/// gate. Nothing is promised of them. Fails where memory is refused.
 fn cuts_of(
     alloc: Global,
     graph: &Graph,
     firsts: &[Literal],
     seconds: &[Literal],
+    factors: Factors,
 ) -> Result<Option<Vec<bool>>, AllocError> {
-    let one = uses_below(alloc, graph, firsts)?;
-    let other = uses_below(alloc, graph, seconds)?;
-    let mut cuts = Vec::with_capacity(alloc, graph.len() as usize)?;
-    let mut some = false;
-    for k in 0..graph.len() {
-        let uses = one.get(k as usize).copied().unwrap_or(0);
-        let others = other.get(k as usize).copied().unwrap_or(0);
-        let is_cut = is_gate(graph, k) && uses.min(others) > 0 && uses.max(others) >= MANY;
-        some = some || is_cut;
-        cuts.push(is_cut)?;
-    }
+    let uses = uses_of(alloc, graph, firsts, seconds)?;
+    let cuts = factors_of(alloc, graph, &uses, factors)?;
+    let some = cuts.iter().any(|it| *it);
     Ok(if some { Some(cuts) } else { None })
 }
 
-/// Notes the gates of which many others are made below a word. Fails where memory is refused.
+/// Notes the gates that may be bits of a word's factors. Fails where memory is refused.
 fn note_factors(
     alloc: Global,
     graph: &Graph,
     word: &[Literal],
-    factors: &mut Vec<Literal>,
+    factors: Factors,
+    noted: &mut Vec<Literal>,
 ) -> Result<(), AllocError> {
     let uses = uses_below(alloc, graph, word)?;
+    let marks = factors_of(alloc, graph, &uses, factors)?;
     for k in 0..graph.len() {
-        let is_used = uses.get(k as usize).copied().unwrap_or(0) >= MANY;
-        if is_used && is_gate(graph, k) {
-            factors.push(2 * k)?;
+        if is_marked(&marks, k) {
+            noted.push(2 * k)?;
         }
     }
     Ok(())
 }
 
-/// Whether a word is a sum of products of gates of which many others are made below it, or of
-/// inputs. Nothing is promised of it. Fails where memory is refused.
-fn is_product(alloc: Global, graph: &Graph, word: &[Literal]) -> Result<bool, AllocError> {
-    let Some(cuts) = cuts_of(alloc, graph, word, word)? else {
+/// Whether a word is a sum of products of gates that may be bits of factors, or of inputs. Nothing
+/// is promised of it. Fails where memory is refused.
+fn is_product(
+    alloc: Global,
+    graph: &Graph,
+    word: &[Literal],
+    factors: Factors,
+) -> Result<bool, AllocError> {
+    let Some(cuts) = cuts_of(alloc, graph, word, word, factors)? else {
         return Ok(false);
     };
     let cut = cut_graph(alloc, graph, &cuts)?;
@@ -141,6 +205,7 @@ fn are_equal_in_copy(
     words: &Words<'_>,
     table: &[Option<Literal>],
     graph: &Graph,
+    factors: Factors,
 ) -> Result<bool, AllocError>
     ensures { (old : List Node) → AreCopies old graph.now table.now → IfOk result (λ is. IsTrue is → AreEqualWords old words.now.firsts.now words.now.seconds.now) }
 {
@@ -149,7 +214,7 @@ fn are_equal_in_copy(
     if ps.len() != words.firsts.len() || qs.len() != words.seconds.len() {
         return Ok(false);
     }
-    let Some(cuts) = cuts_of(words.alloc, graph, &ps, &qs)? else {
+    let Some(cuts) = cuts_of(words.alloc, graph, &ps, &qs, factors)? else {
         return Ok(false);
     };
     let cut = cut_graph(words.alloc, graph, &cuts)?;
@@ -168,34 +233,56 @@ fn copy_over_factors(
     words: &Words<'_>,
     graph: &Graph,
     sweep: &mut Sweep,
+    factors: Factors,
 ) -> Result<Vec<Option<Literal>>, AllocError>
     ensures { IfOk result (λ table. AreCopies graph.now sweep.new table.items) }
 {
-    let mut factors = Vec::new(words.alloc);
-    note_factors(words.alloc, graph, words.firsts, &mut factors)?;
-    note_factors(words.alloc, graph, words.seconds, &mut factors)?;
-    copy_shaped(words.alloc, graph, &factors, sweep, Shape::Plain)?;
+    let mut noted = Vec::new(words.alloc);
+    note_factors(words.alloc, graph, words.firsts, factors, &mut noted)?;
+    note_factors(words.alloc, graph, words.seconds, factors, &mut noted)?;
+    copy_shaped(words.alloc, graph, &noted, sweep, Shape::Plain)?;
     sweep.ask_no_more();
     copy_both(words, graph, sweep, Shape::Plain)
 }
 
 /// Whether two words are shown equal so in a copy in which all nodes are one that are easily found
 /// equal.
-fn are_equal_when_swept(words: &Words<'_>, graph: &Graph) -> Result<bool, AllocError>
+fn are_equal_when_swept(
+    words: &Words<'_>,
+    graph: &Graph,
+    factors: Factors,
+) -> Result<bool, AllocError>
     ensures { IfOk result (λ is. IsTrue is → AreEqualWords graph.now words.now.firsts.now words.now.seconds.now) }
 {
     let mut sweep = Sweep::new(words.alloc, Effort::of(CHEAP, words.limits.work))?;
     let table = copy_both(words, graph, &mut sweep, Shape::Plain)?;
-    are_equal_in_copy(words, &table, sweep.graph())
+    are_equal_in_copy(words, &table, sweep.graph(), factors)
 }
 
 /// Whether two words are shown equal so in a copy in which such gates alone are one.
-fn are_equal_over_factors(words: &Words<'_>, graph: &Graph) -> Result<bool, AllocError>
+fn are_equal_over_factors(
+    words: &Words<'_>,
+    graph: &Graph,
+    factors: Factors,
+) -> Result<bool, AllocError>
     ensures { IfOk result (λ is. IsTrue is → AreEqualWords graph.now words.now.firsts.now words.now.seconds.now) }
 {
     let mut sweep = Sweep::new(words.alloc, Effort::of(CHEAP, words.limits.work))?;
-    let table = copy_over_factors(words, graph, &mut sweep)?;
-    are_equal_in_copy(words, &table, sweep.graph())
+    let table = copy_over_factors(words, graph, &mut sweep, factors)?;
+    are_equal_in_copy(words, &table, sweep.graph(), factors)
+}
+
+/// Which gates may be bits of factors, where one of two words is a sum of products of such bits: none
+/// where neither is. Nothing is promised of them. Fails where memory is refused.
+fn kind_of_factors(words: &Words<'_>, graph: &Graph) -> Result<Option<Factors>, AllocError> {
+    for factors in [Factors::BelowProducts, Factors::All] {
+        for word in [words.firsts, words.seconds] {
+            if is_product(words.alloc, graph, word, factors)? {
+                return Ok(Some(factors));
+            }
+        }
+    }
+    Ok(None)
 }
 
 /// Whether two words are shown equal by way of netlists that are made anew for what they are of
@@ -204,14 +291,11 @@ fn are_equal_over_factors(words: &Words<'_>, graph: &Graph) -> Result<bool, Allo
 pub(crate) fn are_equal_over_cuts(words: &Words<'_>, graph: &Graph) -> Result<bool, AllocError>
     ensures { IfOk result (λ is. IsTrue is → AreEqualWords graph.now words.now.firsts.now words.now.seconds.now) }
 {
-    let Words {
-        alloc,
-        firsts,
-        seconds,
-        ..
-    } = *words;
-    if !is_product(alloc, graph, firsts)? && !is_product(alloc, graph, seconds)? {
+    let Some(factors) = kind_of_factors(words, graph)? else {
         return Ok(false);
-    }
-    Ok(are_equal_when_swept(words, graph)? || are_equal_over_factors(words, graph)?)
+    };
+    Ok(
+        are_equal_when_swept(words, graph, factors)?
+            || are_equal_over_factors(words, graph, factors)?,
+    )
 }

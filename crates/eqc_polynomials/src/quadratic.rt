@@ -14,6 +14,9 @@ const LOOKS: usize = 40_000_000;
 /// So often all assignments at once are compared.
 const ROUNDS: u32 = 2;
 
+/// So many groups of inputs are turned in vain at most.
+const MOST_GROUPS: u32 = 16;
+
 /// A polynomial of degree two in three sets of inputs has the difference of third order 0. Which of
 /// these eight assignments an input is true under, by three random bits: in each set for four, and
 /// for none or all where it is in no set.
@@ -54,6 +57,15 @@ pub struct Quadratic {
     pub constant: u128,
     pub singles: Vec<u128>,
     pub pairs: Vec<Pair>,
+}
+
+/// The inputs whose conjunctions with another one count a power of two, or less than nothing by one.
+#[derive(Drop)]
+struct Partners {
+    added: Vec<usize>,
+    taken: Vec<usize>,
+    /// The one that counts most, as the bit does that tells a factor's sign.
+    last: Option<usize>,
 }
 
 /// The numbers below 2^bits, for which all digits are ones.
@@ -302,9 +314,82 @@ impl Quadratic {
         }
     }
 
+    /// The inputs whose conjunctions with this one count. Fails where memory is refused.
+    fn partners(&self, alloc: Global, place: usize) -> Result<Partners, AllocError> {
+        let mut partners = Partners {
+            added: Vec::new(alloc),
+            taken: Vec::new(alloc),
+            last: None,
+        };
+        let mut highest = 0u32;
+        for Pair { one, other, times } in &self.pairs {
+            let partner = if *one == place { *other } else { *one };
+            let less = 0u128.wrapping_sub(*times) & modulus_of(self.bits);
+            let column = times.trailing_zeros();
+            if *one != place && *other != place {
+                continue;
+            }
+            if times.is_power_of_two() {
+                partners.added.push(partner)?;
+            } else if less.is_power_of_two() {
+                partners.taken.push(partner)?;
+            } else {
+                continue;
+            }
+            if partners.last.is_none() || column > highest {
+                highest = column;
+                partners.last = Some(partner);
+            }
+        }
+        Ok(partners)
+    }
+
+    fn turn_all(&mut self, places: &[usize]) {
+        for place in places {
+            self.turn(*place);
+        }
+    }
+
+    /// Whether less counts by itself where these inputs are turned, as they are or but for the last
+    /// one: then they are.
+    fn turn_group(&mut self, group: &[usize], last: Option<usize>) -> bool {
+        let before = self.weight();
+        self.turn_all(group);
+        if self.weight() < before {
+            return true;
+        }
+        if let Some(last) = last {
+            self.turn(last);
+            if self.weight() < before {
+                return true;
+            }
+            self.turn(last);
+        }
+        self.turn_all(group);
+        false
+    }
+
+    /// Turns inputs of a factor at once, of which a netlist has the complements of some: where one
+    /// alone is turned more counts by itself. Fails where memory is refused.
+    fn turn_groups(&mut self, alloc: Global) -> Result<(), AllocError> {
+        let mut failed = 0u32;
+        for place in 0..self.variables.len() {
+            let Partners { added, taken, last } = self.partners(alloc, place)?;
+            let is_plain = taken.iter().all(|it| Some(*it) == last);
+            if is_plain || failed >= MOST_GROUPS {
+                continue;
+            }
+            if !self.turn_group(&taken, last) && !self.turn_group(&added, last) {
+                failed = failed.saturating_add(1);
+            }
+        }
+        Ok(())
+    }
+
     /// Takes complements of inputs where less counts by itself then: of bits of a factor, say, of
-    /// which a netlist has the complement.
-    pub(crate) fn turned(mut self) -> Quadratic {
+    /// which a netlist has the complement. Fails where memory is refused.
+    pub(crate) fn turned(mut self, alloc: Global) -> Result<Quadratic, AllocError> {
+        self.turn_groups(alloc)?;
         for place in 0..self.variables.len() {
             let before = self.weight();
             self.turn(place);
@@ -312,6 +397,6 @@ impl Quadratic {
                 self.turn(place);
             }
         }
-        self
+        Ok(self)
     }
 }

@@ -26,7 +26,7 @@ pub fn sum_of(
     if first.len() != second.len() || !quadratic.is_same(alloc, graph, second)? {
         return Ok(None);
     }
-    let quadratic = quadratic.turned();
+    let quadratic = quadratic.turned(alloc)?;
     let Some(summands) = summands_of(alloc, &quadratic)? else {
         return Ok(None);
     };
@@ -46,5 +46,5 @@ pub fn is_sum_of_products(
     let Some(quadratic) = Quadratic::of(alloc, graph, word)? else {
         return Ok(false);
     };
-    Ok(summands_of(alloc, &quadratic.turned())?.is_some())
+    Ok(summands_of(alloc, &quadratic.turned(alloc)?)?.is_some())
 }

@@ -37,7 +37,8 @@ struct Alone {
 }
 
 impl Alone {
-    /// That of a product, with as many bits as it has by itself. Fails where memory is refused.
+    /// That of a product, with as many bits as it has by itself, or as the sum has where it may be
+    /// less than nothing. Fails where memory is refused.
     fn of(alloc: Global, quadratic: &Quadratic, product: &Product) -> Result<Alone, AllocError> {
         let inputs = quadratic.variables.len();
         let bits = (product.lowest as usize)
@@ -52,7 +53,11 @@ impl Alone {
         })?;
         Ok(Alone {
             quadratic: Quadratic {
-                bits: bits.min(quadratic.bits),
+                bits: if product.takes_away() {
+                    quadratic.bits
+                } else {
+                    bits.min(quadratic.bits)
+                },
                 variables: quadratic.variables.clone()?,
                 negated: quadratic.negated.clone()?,
                 constant: 0,
@@ -164,8 +169,8 @@ impl<'a> Task<'a> {
         Ok(word)
     }
 
-    /// Whether each summand is a word that is added: products without signs, and inputs of which one
-    /// counts in a column.
+    /// Whether each summand is a word that is added: products, and inputs of which one counts in a
+    /// column.
     fn are_words(&self) -> bool {
         let Summands { products, singles } = self.summands;
         let mut columns = 0u128;
@@ -178,7 +183,7 @@ impl<'a> Task<'a> {
         let count = products.len().saturating_add(usize::from(columns != 0));
         count > 1
             && self.quadratic.constant == 0
-            && !products.iter().any(|it| it.takes_away() || it.is_square())
+            && !products.iter().any(|it| it.is_negative || it.is_square())
     }
 
     /// A netlist of products that are added up each by itself, in the architectures that are most
