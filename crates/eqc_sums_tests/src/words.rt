@@ -26,7 +26,11 @@ fn products(
 
 /// Whether two words are shown equal, and whether they are one anyway.
 fn shown(sums: &mut Sums, p: &[u32], q: &[u32]) -> Result<(bool, bool), AllocError> {
-    let limits = Limits::of(100_000);
+    // What fails takes all steps that it may: these do for products of so few bits.
+    let limits = Limits {
+        steps: 20_000,
+        ..Limits::of(100_000)
+    };
     sums.find_adders(limits)?;
     Ok((sums.show(p, q, limits)?, p == q))
 }
