@@ -14,6 +14,9 @@ pub(crate) enum Tree {
     Array,
     /// Row after row, with carries that are kept for the next one (carry-save).
     Saved,
+    /// The same where sums and carries are nothing at first, so that the first two rows come to half
+    /// adders.
+    Kept,
     /// All columns at once, by threes, until two are left of each (Wallace).
     Layers,
     /// As few adders as bring columns down to heights that are each half as much again as the next
@@ -40,6 +43,7 @@ pub(crate) fn added_up(
         Tree::Layers => columns.in_layers(netlist)?,
         Tree::Late => columns.late(netlist)?,
         Tree::Threes => Rows::of(alloc, Columns::one_by_one(alloc, partial)?)?.by_threes(netlist)?,
+        Tree::Kept => Rows::of(alloc, Columns::one_by_one(alloc, partial)?)?.kept(netlist)?,
         Tree::Columns => {
             columns.lower(netlist, 1)?;
             columns

@@ -1,8 +1,9 @@
 //! Products that are added up each by itself, and their words by chains of carries: so does a design
 //! that multiplies in modules of its own.
 
+use crate::guide::plain;
 use crate::netlist::{FALSE, Netlist};
-use crate::references::{Seen, Task, plain};
+use crate::references::{Seen, Task};
 use eqc_polynomials::{ASSIGNMENTS, Factor, Product, Quadratic, Summands};
 use eqc_xag::Literal;
 use std::alloc::{AllocError, Global};
@@ -142,7 +143,7 @@ impl<'a> Task<'a> {
             let Some(architecture) = task.nearest(seen)? else {
                 return Ok(None);
             };
-            words.push(task.word_in(netlist, &inputs, architecture)?)?;
+            words.push(task.word_in(netlist, &inputs, architecture, Some(&*seen))?)?;
         }
         let singles = self.single_word(&inputs)?;
         if !singles.is_empty() {

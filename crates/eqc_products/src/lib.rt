@@ -6,8 +6,8 @@
 //! that adds up something else isn't found equal. Read the modules in this order:
 //!
 //! - `netlist`, graphs with adders; `partial`, the bits that a product adds up, in `rows`;
-//!   `adding`, how they are added up, with `columns` and `threes`; and `ends`, how carries come to
-//!   the word
+//!   `guide`, their order where that is another one; `adding`, how they are added up, with `columns`
+//!   and `threes`; and `ends`, how carries come to the word
 //! - `references`, of all architectures those that are most like two words, and an array; `apart`,
 //!   products of which each is added up by itself
 #![tactic(auto)]
@@ -16,6 +16,7 @@ mod adding;
 mod apart;
 mod columns;
 mod ends;
+mod guide;
 mod netlist;
 mod partial;
 mod references;

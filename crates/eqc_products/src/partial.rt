@@ -180,14 +180,29 @@ impl Partial {
             keys.push((self.rows[k].key(order, self.part), k))?;
         }
         keys.sort_unstable();
-        let mut rows = Vec::with_capacity(self.alloc, count)?;
+        let mut places = Vec::with_capacity(self.alloc, count)?;
         for (_, k) in &keys {
+            places.push(*k)?;
+        }
+        self.take_order(&places)
+    }
+
+    /// Puts the rows in the order of these places. Fails where memory is refused.
+    pub(crate) fn take_order(&mut self, places: &[usize]) -> Result<(), AllocError> {
+        let mut rows = Vec::with_capacity(self.alloc, places.len())?;
+        for k in places {
             if let Some(row) = self.rows.get(*k) {
                 rows.push(row.copied()?)?;
             }
         }
         self.rows = rows;
         Ok(())
+    }
+
+    /// What a row has in a column that takes its place there.
+    pub(crate) fn entry(&self, row: &Row, column: usize) -> Option<u32> {
+        row.entry(column)
+            .filter(|it| *it != FALSE || self.order != Order::Single)
     }
 
     /// A literal as it counts in a column: one that is taken away is its complement, less one.
@@ -447,10 +462,8 @@ impl Partial {
             literals.push(TRUE)?;
         }
         for row in &self.rows {
-            if let Some(literal) = row.entry(column) {
-                if literal != FALSE || self.order != Order::Single {
-                    literals.push(literal)?;
-                }
+            if let Some(literal) = self.entry(row, column) {
+                literals.push(literal)?;
             }
         }
         Ok(literals)

@@ -2,6 +2,7 @@
 
 use crate::adding::{Tree, added_up};
 use crate::ends::{End, PREFIXES};
+use crate::guide::{Guide, plain};
 use crate::netlist::Netlist;
 use crate::partial::{Digits, Partial};
 use crate::rows::Order;
@@ -20,6 +21,11 @@ const ENDS_SO: u32 = 400;
 /// A value that has so few ones, or zeros, tells nothing: others have it by chance.
 const FEW: u32 = 4;
 
+/// Where fewer of a thousand sums are there rows aren't tried in another order, nor where all are.
+const GUIDED: u32 = 200;
+
+const ALL: u32 = 1_000;
+
 /// An architecture of a product: which digits of which factor make rows, and how these are added
 /// up.
 #[derive(Clone, Copy)]
@@ -30,6 +36,8 @@ pub(crate) struct Architecture {
     are_singles_first: bool,
     order: Order,
     tree: Tree,
+    /// Whether the nodes below a word tell which threes of rows are added up.
+    is_guided: bool,
     end: End,
 }
 
@@ -39,6 +47,7 @@ static TREES: &[(Digits, Tree)] = &[
     (Digits::Whole, Tree::Threes),
     (Digits::Plain, Tree::Array),
     (Digits::Plain, Tree::Saved),
+    (Digits::Whole, Tree::Kept),
     (Digits::Plain, Tree::Late),
     (Digits::Plain, Tree::Layers),
     (Digits::Plain, Tree::Columns),
@@ -56,6 +65,7 @@ const ARRAY: Architecture = Architecture {
     are_singles_first: false,
     order: Order::Ascending,
     tree: Tree::Array,
+    is_guided: false,
     end: End::Chain,
 };
 
@@ -100,6 +110,8 @@ pub(crate) struct Seen {
     pub(crate) values: Vec<u128>,
     /// The architecture that is most like the word of those that were looked at.
     best: Option<Best>,
+    /// That of those by threes of rows.
+    by_threes: Option<Best>,
 }
 
 /// The architecture that is most like a word of those that were looked at.
@@ -112,11 +124,6 @@ pub(crate) struct Best {
     likeness: u32,
     /// How many of a thousand literals of its adders are.
     whole: u32,
-}
-
-/// A value as that of the literal which is false under the first assignment.
-pub(crate) fn plain(value: u128) -> u128 {
-    if value & 1 == 1 { !value } else { value }
 }
 
 impl Seen {
@@ -142,6 +149,7 @@ impl Seen {
             patterns,
             values,
             best: None,
+            by_threes: None,
         })
     }
 
@@ -151,6 +159,7 @@ impl Seen {
             patterns: self.patterns.clone()?,
             values: self.values.clone()?,
             best: None,
+            by_threes: None,
         })
     }
 
@@ -243,11 +252,15 @@ impl Seen {
         architecture: Architecture,
     ) -> Result<(), AllocError> {
         let (sums, likeness, whole) = self.shares(task, netlist)?;
-        let is_better = match &self.best {
-            None => true,
-            Some(best) => self.are_nearer(&sums, &best.sums),
-        };
-        if is_better {
+        if architecture.tree == Tree::Threes && self.is_better(&sums, &self.by_threes) {
+            self.by_threes = Some(Best {
+                architecture,
+                sums: sums.clone()?,
+                likeness,
+                whole,
+            });
+        }
+        if self.is_better(&sums, &self.best) {
             self.best = Some(Best {
                 architecture,
                 sums,
@@ -256,6 +269,14 @@ impl Seen {
             });
         }
         Ok(())
+    }
+
+    /// Whether the sums of an architecture are nearer than those of another one, if there is one.
+    fn is_better(&self, sums: &[u128], other: &Option<Best>) -> bool {
+        match other {
+            None => true,
+            Some(other) => self.are_nearer(sums, &other.sums),
+        }
     }
 }
 
@@ -290,13 +311,13 @@ impl<'a> Task<'a> {
         Ok(inputs)
     }
 
-    /// The word of an architecture, which enters a netlist that has these inputs.
-    pub(crate) fn word_in(
+    /// The bits that an architecture adds up, which enter a netlist that has these inputs.
+    fn partial_in(
         &self,
         netlist: &mut Netlist,
         inputs: &[Literal],
         architecture: Architecture,
-    ) -> Result<Vec<u32>, AllocError> {
+    ) -> Result<Partial, AllocError> {
         let mut partial = Partial::new(self.alloc, self.quadratic.bits);
         let singles = &self.summands.singles;
         if architecture.are_singles_first {
@@ -316,6 +337,26 @@ impl<'a> Task<'a> {
         }
         partial.order(architecture.order)?;
         partial.put_number(self.quadratic.constant);
+        Ok(partial)
+    }
+
+    /// The word of an architecture, which enters a netlist that has these inputs: where it is guided,
+    /// by the nodes below a word.
+    pub(crate) fn word_in(
+        &self,
+        netlist: &mut Netlist,
+        inputs: &[Literal],
+        architecture: Architecture,
+        seen: Option<&Seen>,
+    ) -> Result<Vec<u32>, AllocError> {
+        let mut partial = self.partial_in(netlist, inputs, architecture)?;
+        if let Some(seen) = seen {
+            if architecture.is_guided {
+                let values = self.values(netlist, &seen.patterns)?;
+                let order = Guide::of(self.alloc, &partial, &values, &seen.values)?.order()?;
+                partial.take_order(&order)?;
+            }
+        }
         added_up(
             self.alloc,
             netlist,
@@ -326,11 +367,42 @@ impl<'a> Task<'a> {
     }
 
     /// The netlist of an architecture, with its word.
-    fn made(&self, architecture: Architecture) -> Result<(Netlist, Vec<u32>), AllocError> {
+    fn made(
+        &self,
+        architecture: Architecture,
+        seen: Option<&Seen>,
+    ) -> Result<(Netlist, Vec<u32>), AllocError> {
         let mut netlist = Netlist::new(self.alloc)?;
         let inputs = self.inputs(&mut netlist)?;
-        let word = self.word_in(&mut netlist, &inputs, architecture)?;
+        let word = self.word_in(&mut netlist, &inputs, architecture, seen)?;
         Ok((netlist, word))
+    }
+
+    /// The architecture by threes of rows that is most like a word, with the rows in the order that the
+    /// nodes below the word tell, if it is nearer so than the best one. Fails where memory is refused.
+    fn in_order(&self, seen: &Seen, best: &Best) -> Result<Option<Best>, AllocError> {
+        let Some(nearest) = &seen.by_threes else {
+            return Ok(None);
+        };
+        if nearest.likeness < GUIDED || best.likeness >= ALL {
+            return Ok(None);
+        }
+        let architecture = Architecture {
+            is_guided: true,
+            ..nearest.architecture
+        };
+        let (netlist, _) = self.made(architecture, Some(seen))?;
+        let (sums, likeness, whole) = seen.shares(self, &netlist)?;
+        Ok(if seen.are_nearer(&sums, &best.sums) {
+            Some(Best {
+                architecture,
+                sums,
+                likeness,
+                whole,
+            })
+        } else {
+            None
+        })
     }
 
     /// Whether something counts as less than nothing.
@@ -377,6 +449,7 @@ impl<'a> Task<'a> {
                                 are_singles_first,
                                 order,
                                 tree: *tree,
+                                is_guided: false,
                                 end: End::Chain,
                             })?;
                         }
@@ -390,7 +463,7 @@ impl<'a> Task<'a> {
     /// Compares all architectures with two words, by the sums of adders.
     fn compare(&self, one: &mut Seen, other: &mut Seen) -> Result<(), AllocError> {
         for architecture in &self.architectures()? {
-            let (netlist, _) = self.made(*architecture)?;
+            let (netlist, _) = self.made(*architecture, None)?;
             one.compare(self, &netlist, *architecture)?;
             other.compare(self, &netlist, *architecture)?;
         }
@@ -412,7 +485,7 @@ impl<'a> Task<'a> {
                 end: *end,
                 ..architecture
             };
-            let (netlist, _) = self.made(other)?;
+            let (netlist, _) = self.made(other, Some(seen))?;
             let values = self.values(&netlist, &seen.patterns)?;
             let spans = seen.telling(self.alloc, &values, netlist.spans())?;
             let share = seen.share(&values, &spans);
@@ -429,13 +502,18 @@ impl<'a> Task<'a> {
     /// The architecture that is most like a word, and its end: none where there is none.
     pub(crate) fn nearest(&self, seen: &mut Seen) -> Result<Option<Architecture>, AllocError> {
         seen.best = None;
+        seen.by_threes = None;
         for architecture in &self.architectures()? {
-            let (netlist, _) = self.made(*architecture)?;
+            let (netlist, _) = self.made(*architecture, None)?;
             seen.compare(self, &netlist, *architecture)?;
         }
         match &seen.best {
             None => Ok(None),
-            Some(best) => Ok(Some(self.with_end(seen, best.architecture)?)),
+            Some(best) => {
+                let guided = self.in_order(seen, best)?;
+                let best = guided.as_ref().unwrap_or(best);
+                Ok(Some(self.with_end(seen, best.architecture)?))
+            }
         }
     }
 
@@ -445,6 +523,8 @@ impl<'a> Task<'a> {
         let Some(best) = &seen.best else {
             return Ok(None);
         };
+        let guided = self.in_order(seen, best)?;
+        let best = guided.as_ref().unwrap_or(best);
         if let Some(apart) = self.apart(seen)? {
             let (sums, likeness, whole) = seen.shares(self, &apart.netlist)?;
             if seen.are_nearer(&sums, &best.sums) {
@@ -459,7 +539,7 @@ impl<'a> Task<'a> {
             }
         }
         let architecture = self.with_end(seen, best.architecture)?;
-        let (netlist, word) = self.made(architecture)?;
+        let (netlist, word) = self.made(architecture, Some(seen))?;
         Ok(Some(Reference {
             made: Made {
                 graph: netlist.into_graph(),
@@ -530,7 +610,7 @@ pub fn make_array(
         quadratic: &quadratic,
         summands: &summands,
     };
-    let (netlist, word) = task.made(ARRAY)?;
+    let (netlist, word) = task.made(ARRAY, None)?;
     Ok(Some(Made {
         graph: netlist.into_graph(),
         word,

@@ -1,4 +1,4 @@
-//! Rows of all columns, added up by threes.
+//! Rows of all columns, added up by threes, or one after the other.
 
 use crate::columns::Columns;
 use crate::netlist::{FALSE, Netlist};
@@ -91,6 +91,27 @@ impl Rows {
                 self.rows = self.layer(netlist)?;
             }
         }
+        self.left()
+    }
+
+    /// The two rows that are left where each of these is added to a row of sums and to one of
+    /// carries, which are nothing at first, by columns, and what counts one.
+    pub(crate) fn kept(mut self, netlist: &mut Netlist) -> Result<Columns, AllocError> {
+        let rows = std::mem::replace(&mut self.rows, Vec::new(self.alloc));
+        let mut sums = Row::new(self.alloc, self.bits)?;
+        let mut carries = Row::new(self.alloc, self.bits)?;
+        for row in &rows {
+            let (next, carried) = self.two_of(netlist, &sums, &carries, row)?;
+            sums = next;
+            carries = carried;
+        }
+        self.rows.push(sums)?;
+        self.rows.push(carries)?;
+        self.left()
+    }
+
+    /// These rows by columns, and what counts one.
+    fn left(mut self) -> Result<Columns, AllocError> {
         let mut left = Columns::of(self.alloc, self.bits, &self.rows)?;
         left.put(0, self.one())?;
         Ok(left)
