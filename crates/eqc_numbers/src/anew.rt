@@ -24,12 +24,25 @@ const ALIKE: u32 = 350;
 /// Where so many literals of its adders are, the word is as it was made: it can be added up itself.
 const AS_MADE: u32 = 980;
 
+/// A product by itself that has fewer, and wasn't shown equal by what it adds up to, is searched for.
+const WHOLE: u32 = 1_000;
+
 /// A word with this part more inputs than literals is of several products.
 const MORE_INPUTS: usize = 4;
 
 /// Where a netlist made anew has such a part of its gates that aren't there, they are others: a flow
 /// rewrote the word.
 const REWRITTEN: u32 = 4;
+
+/// The word of a netlist that was made anew for one of a graph, in that graph.
+#[derive(Drop)]
+struct Entered {
+    word: Vec<Literal>,
+    /// Whether such a part of its gates wasn't there that they are others.
+    is_new: bool,
+    /// Whether a flow changed the word that it was made for.
+    is_changed: bool,
+}
 
 /// Makes a word of a netlist that is made anew in a graph. Fails where memory is refused.
 fn enter(alloc: Global, sweep: &mut Sweep, made: &Made) -> Result<Vec<Literal>, AllocError>
@@ -40,22 +53,21 @@ fn enter(alloc: Global, sweep: &mut Sweep, made: &Made) -> Result<Vec<Literal>, 
     copies(alloc, &table, word)
 }
 
-/// The word of a netlist that is made anew, where searches find it equal to a word like which it
-/// is. Fails where memory is refused.
+/// The word of a netlist that is made anew in a graph for one that a flow changed, where searches
+/// find both equal: one that is as it was made can be added up itself. Fails where memory is refused.
 fn found_equal<'a>(
     word: &Words<'_>,
     graph: &Graph,
-    reference: &Reference,
-    anew: &'a [Literal],
+    entered: &'a Entered,
 ) -> Result<Option<&'a [Literal]>, AllocError>
     ensures { IfOk result (λ found. IfSome found (λ w. AreEqualWords graph.now word.now.firsts.now w.now)) }
 {
     let both = Words {
-        seconds: anew,
+        seconds: &entered.word,
         ..*word
     };
-    if reference.likeness >= ALIKE && both.found(graph, Search::Thorough)? == Found::Equal {
-        return Ok(Some(anew));
+    if entered.is_changed && both.found(graph, Search::Thorough)? == Found::Equal {
+        return Ok(Some(&entered.word));
     }
     Ok(None)
 }
@@ -79,15 +91,15 @@ fn are_added_up_by(words: &Words<'_>, graph: &Graph, third: &[Literal]) -> Resul
     )
 }
 
-/// Whether what a netlist is made anew for isn't as it was made.
-fn is_taken_apart(reference: &Reference) -> bool {
-    reference.whole < AS_MADE
+/// Whether what a netlist is made anew for has fewer than so many of a thousand of its literals.
+fn is_taken_apart(reference: &Reference, enough: u32) -> bool {
+    reference.whole < enough
 }
 
-/// Whether a flow changed a word that is of a netlist's architecture: its gates are others, or it
-/// isn't as it was made.
-fn is_changed(reference: &Reference, is_new: bool) -> bool {
-    reference.likeness >= ALIKE && (is_new || is_taken_apart(reference))
+/// Whether a flow changed a word that is of a netlist's architecture: its gates are others, or fewer
+/// than so many of a thousand literals are there.
+fn is_changed(reference: &Reference, is_new: bool, enough: u32) -> bool {
+    reference.likeness >= ALIKE && (is_new || is_taken_apart(reference, enough))
 }
 
 /// Whether there are so many inputs that a word of so many literals which is a sum of products is
@@ -102,19 +114,25 @@ fn is_of_several(graph: &Graph, literals: usize) -> bool {
     inputs > literals.saturating_add(literals / MORE_INPUTS)
 }
 
-/// Makes a word of a netlist that is made anew in a graph, and answers whether such a part of its
-/// gates wasn't there that they are others. Fails where memory is refused.
+/// Makes the word of a netlist that was made anew for one of a graph in that graph: of one that isn't
+/// changed so many of a thousand literals are there. Fails where memory is refused.
 fn enter_new(
     alloc: Global,
     sweep: &mut Sweep,
-    made: &Made,
-) -> Result<(Vec<Literal>, bool), AllocError>
+    reference: &Reference,
+    enough: u32,
+) -> Result<Entered, AllocError>
     ensures { Extends sweep.old sweep.new }
 {
     let before = sweep.graph().len();
-    let word = enter(alloc, sweep, made)?;
+    let word = enter(alloc, sweep, &reference.made)?;
     let new = sweep.graph().len().saturating_sub(before);
-    Ok((word, new >= made.graph.len() / REWRITTEN))
+    let is_new = new >= reference.made.graph.len() / REWRITTEN;
+    Ok(Entered {
+        word,
+        is_new,
+        is_changed: is_changed(reference, is_new, enough),
+    })
 }
 
 /// Whether a flow changed one of two words for which netlists were made anew. Fails where memory is
@@ -122,9 +140,9 @@ fn enter_new(
 fn is_one_changed(words: &Words<'_>, graph: &Graph, anew: &References) -> Result<bool, AllocError> {
     let mut sweep = Sweep::new(words.alloc, Effort::none())?;
     copy_both(words, graph, &mut sweep, Shape::Plain)?;
-    let (_, is_first_new) = enter_new(words.alloc, &mut sweep, &anew.first.made)?;
-    let (_, is_second_new) = enter_new(words.alloc, &mut sweep, &anew.second.made)?;
-    Ok(is_changed(&anew.first, is_first_new) || is_changed(&anew.second, is_second_new))
+    let first = enter_new(words.alloc, &mut sweep, &anew.first, AS_MADE)?;
+    let second = enter_new(words.alloc, &mut sweep, &anew.second, AS_MADE)?;
+    Ok(first.is_changed || second.is_changed)
 }
 
 /// Whether two words of a graph are the same sum of products and look as if they were as they were
@@ -144,7 +162,7 @@ fn look_as_made(words: &Words<'_>, graph: &Graph) -> Result<bool, AllocError> {
     if is_of_several(graph, firsts.len()) {
         return Ok(!is_one_changed(words, graph, &anew)?);
     }
-    Ok(!is_taken_apart(&anew.first) && !is_taken_apart(&anew.second))
+    Ok(!is_taken_apart(&anew.first, AS_MADE) && !is_taken_apart(&anew.second, AS_MADE))
 }
 
 /// In which turn two words of a graph that are the same sum of products get a look: of squares, of
@@ -286,10 +304,8 @@ fn are_equal_by_way(
 fn are_equal_in(
     words: &Words<'_>,
     graph: &Graph,
-    anew: &References,
-    first: &[Literal],
-    second: &[Literal],
-    is_changed: bool,
+    first: &Entered,
+    second: &Entered,
 ) -> Result<bool, AllocError>
     ensures { IfOk result (λ is. IsTrue is → AreEqualWords graph.now words.now.firsts.now words.now.seconds.now) }
 {
@@ -297,11 +313,12 @@ fn are_equal_in(
         firsts: words.seconds,
         ..*words
     };
+    let is_changed = first.is_changed || second.is_changed;
     if !is_changed && are_shown_in(words, graph, 0, Depth::Glance)? {
         return Ok(true);
     }
-    let one = found_equal(words, graph, &anew.first, first)?;
-    let other = found_equal(&turned, graph, &anew.second, second)?;
+    let one = found_equal(words, graph, first)?;
+    let other = found_equal(&turned, graph, second)?;
     are_equal_by_way(words, graph, one, other)
 }
 
@@ -329,10 +346,12 @@ fn are_equal_by_references(
     if ps.len() != firsts.len() || qs.len() != seconds.len() {
         return Ok(false);
     }
-    let (first, is_first_new) = enter_new(alloc, &mut sweep, &anew.first.made)?;
-    let (second, is_second_new) = enter_new(alloc, &mut sweep, &anew.second.made)?;
-    let are_new = is_first_new || is_second_new;
-    if !are_new && !is_taken_apart(&anew.first) && !is_taken_apart(&anew.second) {
+    let is_of_several = is_of_several(graph, firsts.len());
+    let enough = if is_of_several { AS_MADE } else { WHOLE };
+    let first = enter_new(alloc, &mut sweep, &anew.first, enough)?;
+    let second = enter_new(alloc, &mut sweep, &anew.second, enough)?;
+    let are_new = first.is_new || second.is_new;
+    if !are_new && !is_taken_apart(&anew.first, enough) && !is_taken_apart(&anew.second, enough) {
         return Ok(false);
     }
     let copied = Words {
@@ -340,9 +359,7 @@ fn are_equal_by_references(
         seconds: &qs,
         ..*words
     };
-    let is_changed = is_changed(&anew.first, is_first_new)
-        || is_changed(&anew.second, is_second_new);
-    are_equal_in(&copied, sweep.graph(), anew, &first, &second, is_changed)
+    are_equal_in(&copied, sweep.graph(), &first, &second)
 }
 
 /// The same as `are_equal_anew` where the words are sums of products of inputs. Words as they were
