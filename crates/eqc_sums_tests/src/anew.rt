@@ -51,7 +51,8 @@ fn shown(
 /// shown equal. Where both are as they were made none is made anew.
 #[rattlefmt::skip]
 static PRODUCTS: &[(&str, Factors, Architecture, Architecture, usize, bool)] = &[
-    ("8 bits, mapped, against rows", Factors::Two(8), Architecture::Mapped, Architecture::Array, 0, true),
+    ("6 bits, mapped, against rows", Factors::Two(6), Architecture::Mapped, Architecture::Array, 0, true),
+    ("8 bits, mapped, against recoded", Factors::Two(8), Architecture::Mapped, Architecture::Booth, 0, true),
     ("8 bits, recoded, against mapped", Factors::Two(8), Architecture::Booth, Architecture::Mapped, 0, true),
     ("6 bits, mapped, a wrong carry", Factors::Two(6), Architecture::Mapped, Architecture::Array, 16, false),
     ("6 bits, taken away, in mapped rows", Factors::TakenAway(6), Architecture::Rows, Architecture::Array, 0, true),
