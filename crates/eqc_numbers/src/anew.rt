@@ -91,15 +91,15 @@ fn are_added_up_by(words: &Words<'_>, graph: &Graph, third: &[Literal]) -> Resul
     )
 }
 
-/// Whether what a netlist is made anew for has fewer than so many of a thousand of its literals.
-fn is_taken_apart(reference: &Reference, enough: u32) -> bool {
-    reference.whole < enough
+/// Whether so many of a thousand literals of both netlists are among what they are made anew for.
+fn are_whole(anew: &References, enough: u32) -> bool {
+    anew.first.whole >= enough && anew.second.whole >= enough
 }
 
 /// Whether a flow changed a word that is of a netlist's architecture: its gates are others, or fewer
 /// than so many of a thousand literals are there.
 fn is_changed(reference: &Reference, is_new: bool, enough: u32) -> bool {
-    reference.likeness >= ALIKE && (is_new || is_taken_apart(reference, enough))
+    reference.likeness >= ALIKE && (is_new || reference.whole < enough)
 }
 
 /// Whether there are so many inputs that a word of so many literals which is a sum of products is
@@ -162,7 +162,7 @@ fn look_as_made(words: &Words<'_>, graph: &Graph) -> Result<bool, AllocError> {
     if is_of_several(graph, firsts.len()) {
         return Ok(!is_one_changed(words, graph, &anew)?);
     }
-    Ok(!is_taken_apart(&anew.first, AS_MADE) && !is_taken_apart(&anew.second, AS_MADE))
+    Ok(are_whole(&anew, AS_MADE))
 }
 
 /// In which turn two words of a graph that are the same sum of products get a look: of squares, of
@@ -350,8 +350,7 @@ fn are_equal_by_references(
     let enough = if is_of_several { AS_MADE } else { WHOLE };
     let first = enter_new(alloc, &mut sweep, &anew.first, enough)?;
     let second = enter_new(alloc, &mut sweep, &anew.second, enough)?;
-    let are_new = first.is_new || second.is_new;
-    if !are_new && !is_taken_apart(&anew.first, enough) && !is_taken_apart(&anew.second, enough) {
+    if !first.is_new && !second.is_new && are_whole(anew, enough) {
         return Ok(false);
     }
     let copied = Words {

@@ -9,6 +9,7 @@ ghost use Rattle.eqc_numbers.specs.Cuts.{IsCut, StandsFor};
 
 use crate::anew::are_equal_by_way_of_references;
 use crate::chains::{Shape, copy_shaped};
+use crate::marks::is_marked;
 use crate::shown::{CHEAP, Words, copies, copy_both};
 use eqc_polynomials::is_sum_of_products;
 use eqc_sweep::{Effort, Sweep, below};
@@ -60,8 +61,7 @@ fn cut_graph(alloc: Global, graph: &Graph, cuts: &[bool]) -> Result<Graph, Alloc
     'nodes: for k in 1..graph.len() {
         // For its proof's sake: that what was made so far is a graph.
         let _ = part.len();
-        let is_cut = cuts.get(k as usize).copied() == Some(true);
-        part.push(cut_node(graph.node(k), k, is_cut))?;
+        part.push(cut_node(graph.node(k), k, is_marked(cuts, k)))?;
     }
     Ok(part)
 }
@@ -80,7 +80,7 @@ fn uses_below(alloc: Global, graph: &Graph, word: &[Literal]) -> Result<Vec<u32>
     let marks = below(alloc, graph, word)?;
     let mut uses = vec![in alloc; 0u32; graph.len() as usize]?;
     for k in 0..graph.len() {
-        if marks.get(k as usize).copied() != Some(true) {
+        if !is_marked(&marks, k) {
             continue;
         }
         if let Node::And(x, y) | Node::Xor(x, y) = graph.node(k) {
@@ -95,13 +95,23 @@ fn is_gate(graph: &Graph, k: u32) -> bool {
     k < graph.len() && matches!(graph.node(k), Node::And(_, _) | Node::Xor(_, _))
 }
 
-fn is_marked(marks: &[bool], k: u32) -> bool {
-    marks.get(k as usize).copied() == Some(true)
-}
-
 /// Whether many gates are made of a node.
 fn is_used_often(uses: &[u32], k: u32) -> bool {
     uses.get(k as usize).copied().unwrap_or(0) >= MANY
+}
+
+/// Whether a node is the product of two that many gates are made of, or is made of one that is marked.
+fn is_above_product(node: Node, uses: &[u32], above: &[bool]) -> bool {
+    match node {
+        Node::Constant | Node::Input(_) => false,
+        Node::And(x, y) | Node::Xor(x, y) => {
+            let (x, y) = (node_of(x), node_of(y));
+            let is_product = matches!(node, Node::And(_, _));
+            is_marked(above, x)
+                || is_marked(above, y)
+                || is_product && is_used_often(uses, x) && is_used_often(uses, y)
+        }
+    }
 }
 
 /// Marks of the gates of which many others are made, by how many, where they may be bits of factors.
@@ -115,13 +125,7 @@ fn factors_of(
     let mut marks = Vec::with_capacity(alloc, uses.len())?;
     let mut above = Vec::with_capacity(alloc, uses.len())?;
     for k in 0..graph.len() {
-        let is_many = |literal: Literal| is_used_often(uses, node_of(literal));
-        let has = |all: &[bool], literal: Literal| is_marked(all, node_of(literal));
-        let is_above = match graph.node(k) {
-            Node::Constant | Node::Input(_) => false,
-            Node::Xor(x, y) => has(&above, x) || has(&above, y),
-            Node::And(x, y) => has(&above, x) || has(&above, y) || is_many(x) && is_many(y),
-        };
+        let is_above = is_above_product(graph.node(k), uses, &above);
         let is_left = factors == Factors::BelowProducts && is_above;
         marks.push(is_gate(graph, k) && is_used_often(uses, k) && !is_left)?;
         above.push(is_above)?;

@@ -9,3 +9,7 @@ pub(crate) fn mark(marks: &mut Vec<bool>, literal: Literal) {
         marks[at] = true;
     }
 }
+
+pub(crate) fn is_marked(marks: &[bool], k: u32) -> bool {
+    marks.get(k as usize).copied() == Some(true)
+}

@@ -140,10 +140,10 @@ impl<'a> Task<'a> {
         for product in &self.summands.products {
             let alone = Alone::of(self.alloc, self.quadratic, product)?;
             let task = alone.task(self.alloc);
-            let Some(architecture) = task.nearest(seen)? else {
+            let Some(plan) = task.nearest(seen)? else {
                 return Ok(None);
             };
-            words.push(task.word_in(netlist, &inputs, architecture, Some(&*seen))?)?;
+            words.push(task.word_in(netlist, &inputs, &plan)?)?;
         }
         let singles = self.single_word(&inputs)?;
         if !singles.is_empty() {

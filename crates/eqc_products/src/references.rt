@@ -36,9 +36,40 @@ pub(crate) struct Architecture {
     are_singles_first: bool,
     order: Order,
     tree: Tree,
-    /// Whether the nodes below a word tell which threes of rows are added up.
-    is_guided: bool,
     end: End,
+}
+
+/// An architecture, and the order of its rows where the nodes below a word tell another one.
+#[derive(Drop)]
+pub(crate) struct Plan {
+    architecture: Architecture,
+    /// The places of its rows, in the order in which they come.
+    order: Option<Vec<usize>>,
+}
+
+impl Plan {
+    /// That of an architecture whose rows come in its own order.
+    fn of(architecture: Architecture) -> Plan {
+        Plan {
+            architecture,
+            order: None,
+        }
+    }
+
+    /// The same one with another end. Fails where memory is refused.
+    fn ending_with(&self, end: End) -> Result<Plan, AllocError> {
+        let order = match &self.order {
+            None => None,
+            Some(order) => Some(order.clone()?),
+        };
+        Ok(Plan {
+            architecture: Architecture {
+                end,
+                ..self.architecture
+            },
+            order,
+        })
+    }
 }
 
 /// How sums of plain rows are made, and of recoded ones.
@@ -65,7 +96,6 @@ const ARRAY: Architecture = Architecture {
     are_singles_first: false,
     order: Order::Ascending,
     tree: Tree::Array,
-    is_guided: false,
     end: End::Chain,
 };
 
@@ -108,22 +138,38 @@ pub(crate) struct Task<'a> {
 pub(crate) struct Seen {
     pub(crate) patterns: Vec<u128>,
     pub(crate) values: Vec<u128>,
-    /// The architecture that is most like the word of those that were looked at.
+    nearest: Nearest,
+}
+
+/// The architectures that are most like a word, of those that were looked at.
+#[derive(Drop)]
+struct Nearest {
+    /// Of all.
     best: Option<Best>,
-    /// That of those by threes of rows.
+    /// Of those by threes of rows.
     by_threes: Option<Best>,
 }
 
-/// The architecture that is most like a word of those that were looked at.
+/// An architecture that a word may have, and how much it is like it.
 #[derive(Drop)]
-pub(crate) struct Best {
-    architecture: Architecture,
+struct Best {
+    plan: Plan,
     /// The values of the sums of its adders, in order.
     sums: Vec<u128>,
     /// How many of a thousand sums of its adders are among what the word is made of.
     likeness: u32,
     /// How many of a thousand literals of its adders are.
     whole: u32,
+}
+
+impl Nearest {
+    /// Where none was looked at.
+    fn none() -> Nearest {
+        Nearest {
+            best: None,
+            by_threes: None,
+        }
+    }
 }
 
 impl Seen {
@@ -148,8 +194,7 @@ impl Seen {
         Ok(Seen {
             patterns,
             values,
-            best: None,
-            by_threes: None,
+            nearest: Nearest::none(),
         })
     }
 
@@ -158,8 +203,7 @@ impl Seen {
         Ok(Seen {
             patterns: self.patterns.clone()?,
             values: self.values.clone()?,
-            best: None,
-            by_threes: None,
+            nearest: Nearest::none(),
         })
     }
 
@@ -252,17 +296,17 @@ impl Seen {
         architecture: Architecture,
     ) -> Result<(), AllocError> {
         let (sums, likeness, whole) = self.shares(task, netlist)?;
-        if architecture.tree == Tree::Threes && self.is_better(&sums, &self.by_threes) {
-            self.by_threes = Some(Best {
-                architecture,
+        if architecture.tree == Tree::Threes && self.is_better(&sums, &self.nearest.by_threes) {
+            self.nearest.by_threes = Some(Best {
+                plan: Plan::of(architecture),
                 sums: sums.clone()?,
                 likeness,
                 whole,
             });
         }
-        if self.is_better(&sums, &self.best) {
-            self.best = Some(Best {
-                architecture,
+        if self.is_better(&sums, &self.nearest.best) {
+            self.nearest.best = Some(Best {
+                plan: Plan::of(architecture),
                 sums,
                 likeness,
                 whole,
@@ -340,62 +384,58 @@ impl<'a> Task<'a> {
         Ok(partial)
     }
 
-    /// The word of an architecture, which enters a netlist that has these inputs: where it is guided,
-    /// by the nodes below a word.
+    /// The word of an architecture, which enters a netlist that has these inputs.
     pub(crate) fn word_in(
         &self,
         netlist: &mut Netlist,
         inputs: &[Literal],
-        architecture: Architecture,
-        seen: Option<&Seen>,
+        plan: &Plan,
     ) -> Result<Vec<u32>, AllocError> {
-        let mut partial = self.partial_in(netlist, inputs, architecture)?;
-        if let Some(seen) = seen {
-            if architecture.is_guided {
-                let values = self.values(netlist, &seen.patterns)?;
-                let order = Guide::of(self.alloc, &partial, &values, &seen.values)?.order()?;
-                partial.take_order(&order)?;
-            }
+        let Architecture { tree, end, .. } = plan.architecture;
+        let mut partial = self.partial_in(netlist, inputs, plan.architecture)?;
+        if let Some(order) = &plan.order {
+            partial.take_order(order)?;
         }
-        added_up(
-            self.alloc,
-            netlist,
-            &partial,
-            architecture.tree,
-            architecture.end,
-        )
+        added_up(self.alloc, netlist, &partial, tree, end)
     }
 
     /// The netlist of an architecture, with its word.
-    fn made(
-        &self,
-        architecture: Architecture,
-        seen: Option<&Seen>,
-    ) -> Result<(Netlist, Vec<u32>), AllocError> {
+    fn made(&self, plan: &Plan) -> Result<(Netlist, Vec<u32>), AllocError> {
         let mut netlist = Netlist::new(self.alloc)?;
         let inputs = self.inputs(&mut netlist)?;
-        let word = self.word_in(&mut netlist, &inputs, architecture, seen)?;
+        let word = self.word_in(&mut netlist, &inputs, plan)?;
         Ok((netlist, word))
+    }
+
+    /// The order of an architecture's rows that the nodes below a word tell. Fails where memory is
+    /// refused.
+    fn order_of(&self, seen: &Seen, architecture: Architecture) -> Result<Vec<usize>, AllocError> {
+        let mut netlist = Netlist::new(self.alloc)?;
+        let inputs = self.inputs(&mut netlist)?;
+        let partial = self.partial_in(&mut netlist, &inputs, architecture)?;
+        let values = self.values(&netlist, &seen.patterns)?;
+        Guide::of(self.alloc, &partial, &values, &seen.values)?.order()
     }
 
     /// The architecture by threes of rows that is most like a word, with the rows in the order that the
     /// nodes below the word tell, if it is nearer so than the best one. Fails where memory is refused.
     fn in_order(&self, seen: &Seen, best: &Best) -> Result<Option<Best>, AllocError> {
-        let Some(nearest) = &seen.by_threes else {
+        let Some(nearest) = &seen.nearest.by_threes else {
             return Ok(None);
         };
         if nearest.likeness < GUIDED || best.likeness >= ALL {
             return Ok(None);
         }
-        let architecture = Architecture {
-            is_guided: true,
-            ..nearest.architecture
+        let architecture = nearest.plan.architecture;
+        let plan = Plan {
+            architecture,
+            order: Some(self.order_of(seen, architecture)?),
         };
-        let (netlist, _) = self.made(architecture, Some(seen))?;
+        let (netlist, _) = self.made(&plan)?;
         let (sums, likeness, whole) = seen.shares(self, &netlist)?;
         Ok(if seen.are_nearer(&sums, &best.sums) {
             Some(Best {
-                architecture,
+                plan,
                 sums,
                 likeness,
                 whole,
@@ -449,7 +489,6 @@ impl<'a> Task<'a> {
                                 are_singles_first,
                                 order,
                                 tree: *tree,
-                                is_guided: false,
                                 end: End::Chain,
                             })?;
                         }
@@ -463,7 +502,7 @@ impl<'a> Task<'a> {
     /// Compares all architectures with two words, by the sums of adders.
     fn compare(&self, one: &mut Seen, other: &mut Seen) -> Result<(), AllocError> {
         for architecture in &self.architectures()? {
-            let (netlist, _) = self.made(*architecture, None)?;
+            let (netlist, _) = self.made(&Plan::of(*architecture))?;
             one.compare(self, &netlist, *architecture)?;
             other.compare(self, &netlist, *architecture)?;
         }
@@ -473,19 +512,12 @@ impl<'a> Task<'a> {
     /// The same architecture with the tree of prefixes at its end of which a word has most spans
     /// beyond those that it has of any tree. Their share doesn't tell: all spans of a tree of few
     /// are among those of one of many.
-    fn with_end(
-        &self,
-        seen: &Seen,
-        architecture: Architecture,
-    ) -> Result<Architecture, AllocError> {
+    fn with_end(&self, seen: &Seen, plan: &Plan) -> Result<Plan, AllocError> {
         let mut most = 0u64;
-        let mut found = architecture;
+        let mut found = plan.ending_with(plan.architecture.end)?;
         for end in PREFIXES {
-            let other = Architecture {
-                end: *end,
-                ..architecture
-            };
-            let (netlist, _) = self.made(other, Some(seen))?;
+            let other = plan.ending_with(*end)?;
+            let (netlist, _) = self.made(&other)?;
             let values = self.values(&netlist, &seen.patterns)?;
             let spans = seen.telling(self.alloc, &values, netlist.spans())?;
             let share = seen.share(&values, &spans);
@@ -500,19 +532,18 @@ impl<'a> Task<'a> {
     }
 
     /// The architecture that is most like a word, and its end: none where there is none.
-    pub(crate) fn nearest(&self, seen: &mut Seen) -> Result<Option<Architecture>, AllocError> {
-        seen.best = None;
-        seen.by_threes = None;
+    pub(crate) fn nearest(&self, seen: &mut Seen) -> Result<Option<Plan>, AllocError> {
+        seen.nearest = Nearest::none();
         for architecture in &self.architectures()? {
-            let (netlist, _) = self.made(*architecture, None)?;
+            let (netlist, _) = self.made(&Plan::of(*architecture))?;
             seen.compare(self, &netlist, *architecture)?;
         }
-        match &seen.best {
+        match &seen.nearest.best {
             None => Ok(None),
             Some(best) => {
                 let guided = self.in_order(seen, best)?;
                 let best = guided.as_ref().unwrap_or(best);
-                Ok(Some(self.with_end(seen, best.architecture)?))
+                Ok(Some(self.with_end(seen, &best.plan)?))
             }
         }
     }
@@ -520,7 +551,7 @@ impl<'a> Task<'a> {
     /// The netlist that is most like a word, if one was looked at: of all rows at once, or of
     /// products that are added up each by itself.
     fn reference(&self, seen: &Seen) -> Result<Option<Reference>, AllocError> {
-        let Some(best) = &seen.best else {
+        let Some(best) = &seen.nearest.best else {
             return Ok(None);
         };
         let guided = self.in_order(seen, best)?;
@@ -538,8 +569,7 @@ impl<'a> Task<'a> {
                 }));
             }
         }
-        let architecture = self.with_end(seen, best.architecture)?;
-        let (netlist, word) = self.made(architecture, Some(seen))?;
+        let (netlist, word) = self.made(&self.with_end(seen, &best.plan)?)?;
         Ok(Some(Reference {
             made: Made {
                 graph: netlist.into_graph(),
@@ -610,7 +640,7 @@ pub fn make_array(
         quadratic: &quadratic,
         summands: &summands,
     };
-    let (netlist, word) = task.made(ARRAY, None)?;
+    let (netlist, word) = task.made(&Plan::of(ARRAY))?;
     Ok(Some(Made {
         graph: netlist.into_graph(),
         word,
