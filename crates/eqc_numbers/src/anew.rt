@@ -8,7 +8,7 @@ ghost use Rattle.eqc_xag.specs.Graph.{Extends};
 ghost use Rattle.eqc_sums.specs.Adding.{AreEqualWords};
 
 use crate::chains::{Shape, copy_shaped};
-use crate::compared::{Found, Search, TURNS};
+use crate::compared::TURNS;
 use crate::cuts::are_equal_over_cuts;
 use crate::shown::{Depth, Words, are_shown_equal, are_shown_in, copies, copy_both};
 use eqc_polynomials::is_sum_of_products;
@@ -66,7 +66,7 @@ fn found_equal<'a>(
         seconds: &entered.word,
         ..*word
     };
-    if entered.is_changed && both.found(graph, Search::Thorough)? == Found::Equal {
+    if entered.is_changed && both.are_found_equal(graph)? {
         return Ok(Some(&entered.word));
     }
     Ok(None)

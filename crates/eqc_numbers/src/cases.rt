@@ -5,7 +5,7 @@ ghost use Rattle.eqc_sums.specs.Adding.{AreEqualWords};
 
 use crate::anew::are_equal_anew;
 use crate::cofactor::{Control, cofactor, control_of};
-use crate::compared::{Found, Search, TURNS};
+use crate::compared::{Found, TURNS};
 use crate::shown::{Words, are_shown_equal};
 use eqc_xag::Graph;
 use std::alloc::{AllocError, Global};
@@ -52,7 +52,7 @@ fn are_equal_by(
         return Ok(false);
     }
     *left -= graph.len();
-    let found = words.found(graph, Search::Brief)?;
+    let found = words.found(graph)?;
     if found == Found::Equal {
         return Ok(true);
     }
