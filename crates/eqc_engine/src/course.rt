@@ -9,7 +9,7 @@
 //! | 4 | a short search, where simulation saw an output differ | `by_search` | all outputs, or all up to the first that differs |
 //! | 5 | words of outputs that are equal to products made anew, or add up the same or what an array does, a short look for words inside that do, and for outputs that do in each case of what inputs choose | `by_sums`, `by_inner_sums` | outputs whose words are shown equal, and the same as 3 |
 //! | 6 | 2 in a larger room | `in_room` | the outputs left, where they fit |
-//! | 7 | rounds of sweeping that take no longer than 8, where there are few inputs | `sweep_more` | the same as 3 |
+//! | 7 | rounds of sweeping that take no longer than 8, where there are few inputs; before 5 where 3 left few nodes | `sweep_more` | the same as 3 |
 //! | 8 | diagrams by one worker who takes dead nodes back, where there are few inputs or very many | `in_room` | the outputs left, where they fit |
 //! | 9 | long rounds of sweeping, as long as they find nodes equal | `sweep_more` | the same as 3 |
 //! | 10 | short searches | `by_search` | the same as 4 |
@@ -57,6 +57,11 @@ const SEARCH_PART: u64 = 5;
 /// Longer rounds come before diagrams of one worker where the rounds between left this part fewer
 /// nodes.
 const FRUITFUL: u64 = 8;
+
+/// Where short rounds take this part of the nodes away, longer ones come before words are added up:
+/// of a netlist and what a flow made of it half is left, of two architectures more, and adders that
+/// the flow took apart are looked for in vain.
+const TAKEN_PART: u32 = 4;
 
 /// Where a run's comparison is made, behind the first room: a store of one thread, which is left as
 /// soon as it is full, or as the turns of its operations are spent.
@@ -247,9 +252,8 @@ fn by_short_rounds<R: Threads + Wait + Sync, P: Progress<R> + Sync>(
     by_search(comparison, inside, alike, few_conflicts(comparison), left)
 }
 
-/// Sweeps in rounds that take no longer than diagrams of one worker, where there are few inputs.
-/// Answers whether outputs are left of so many fewer nodes that longer rounds come before such
-/// diagrams.
+/// Sweeps in rounds that take no longer than diagrams of one worker. Answers whether outputs are
+/// left of so many fewer nodes that longer rounds come before such diagrams.
 fn rounds_between<R: Threads + Wait + Sync, P: Progress<R> + Sync>(
     comparison: &Comparison<'_, R, P>,
     inside: &mut Inside<'_>,
@@ -263,9 +267,6 @@ fn rounds_between<R: Threads + Wait + Sync, P: Progress<R> + Sync>(
     ensures kept { KeepsMarks inside.old alike.old.equal.items alike.new.equal.items }
 {
     let Comparison { alloc, pair, .. } = *comparison;
-    if !has_some_inputs(pair) {
-        return false;
-    }
     let before = u64::from(inside.nodes());
     rounds.lengthen(Span::Medium);
     sweep_more(comparison, inside, alike, rounds);
@@ -336,11 +337,13 @@ enum Attempt {
     /// Words of outputs that are as they were made.
     WordsAsMade,
     ShortRounds,
+    /// Rounds that take no longer than diagrams of one worker, where short ones left few nodes.
+    EarlyRounds,
     WordsOfOutputs,
     /// Words of outputs or inside, of one kind.
     Words(Kind),
     LargeRoom,
-    /// Rounds that take no longer than diagrams of one worker.
+    /// The same rounds where they haven't been, and there are few inputs.
     RoundsBetween,
     /// Diagrams of one worker, unless so few nodes are left that longer rounds come first.
     OneWorker,
@@ -354,6 +357,7 @@ enum Attempt {
 static ATTEMPTS: &[Attempt] = &[
     Attempt::WordsAsMade,
     Attempt::ShortRounds,
+    Attempt::EarlyRounds,
     Attempt::Words(Kind::Anew),
     Attempt::Words(Kind::Arrays),
     Attempt::WordsOfOutputs,
@@ -372,6 +376,10 @@ static ATTEMPTS: &[Attempt] = &[
 #[derive(Drop)]
 struct Course {
     rounds: Rounds,
+    /// Whether short rounds left so few nodes that one netlist is made of the other.
+    is_copy: bool,
+    /// Whether rounds that take no longer than diagrams of one worker have been.
+    is_between: bool,
     /// Whether longer rounds come before diagrams of one worker.
     is_late: bool,
 }
@@ -398,7 +406,12 @@ fn by_attempt<R: Threads + Wait + Sync, P: Progress<R> + Sync>(
     let rounds = &mut course.rounds;
     match attempt {
         Attempt::WordsAsMade => by_words_as_made(comparison, inside, alike, rounds),
-        Attempt::ShortRounds => by_short_rounds(comparison, inside, alike, rounds, left),
+        Attempt::ShortRounds => {
+            let nodes = inside.nodes();
+            let report = by_short_rounds(comparison, inside, alike, rounds, left);
+            course.is_copy = inside.nodes() <= nodes - nodes / TAKEN_PART;
+            report
+        }
         Attempt::WordsOfOutputs => by_sums(comparison, inside, alike),
         Attempt::Words(kind) => {
             let look = Look {
@@ -408,8 +421,13 @@ fn by_attempt<R: Threads + Wait + Sync, P: Progress<R> + Sync>(
             by_inner_sums(comparison, inside, alike, rounds, look)
         }
         Attempt::LargeRoom => in_room(comparison, Room::Large, alike),
-        Attempt::RoundsBetween => {
+        Attempt::EarlyRounds if !course.is_copy => Err(Stop::NodeLimit),
+        Attempt::RoundsBetween if course.is_between || !has_some_inputs(comparison.pair) => {
+            Err(Stop::NodeLimit)
+        }
+        Attempt::EarlyRounds | Attempt::RoundsBetween => {
             course.is_late = rounds_between(comparison, inside, alike, rounds);
+            course.is_between = true;
             Err(Stop::NodeLimit)
         }
         Attempt::OneWorker if !course.is_late => in_room(comparison, Room::One, alike),
@@ -439,6 +457,8 @@ fn by_sweeping<R: Threads + Wait + Sync, P: Progress<R> + Sync>(
 {
     let mut course = Course {
         rounds,
+        is_copy: false,
+        is_between: false,
         is_late: false,
     };
     'attempts: for attempt in ATTEMPTS {
